@@ -1,0 +1,3 @@
+pub mod Value
+pub mod Enclose
+pub mod Laws

@@ -1,0 +1,18 @@
+-- `curve::Line::closest_param` meets its contract: what its calls ensure, put together, is `nearest`. Assumes nothing.
+use borrow.Author.Needs.{needs}
+use Rattle.geometry.specs.Geometry.{nearest}
+use Rattle.geometry.proofs.curve.Line.closest_param.Statement.{statement}
+use Rattle.geometry.proofs.curve.Line.closest_param.Tie as tie
+
+sub-requires : tie.Need-sub-requires
+sub-requires c κs = search needs
+
+dot-requires : tie.Need-dot-requires
+dot-requires c κs = search needs
+
+returns : tie.Need-returns
+unfolding nearest
+returns c = cc
+
+pub closest-param-spec : {M : Type 1} → statement M
+closest-param-spec = tie.close (tie.spec sub-requires dot-requires returns)

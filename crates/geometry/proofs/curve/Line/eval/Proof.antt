@@ -1,0 +1,18 @@
+-- `curve::Line::eval` meets its contract: what its calls ensure, put together, is `linePoint`. Assumes nothing.
+use borrow.Author.Needs.{needs}
+use Rattle.geometry.specs.Geometry.{linePoint}
+use Rattle.geometry.proofs.curve.Line.eval.Statement.{statement}
+use Rattle.geometry.proofs.curve.Line.eval.Tie as tie
+
+mul-requires : tie.Need-mul-requires
+mul-requires c κs = search needs
+
+add-requires : tie.Need-add-requires
+add-requires c κs = search needs
+
+returns : tie.Need-returns
+unfolding linePoint
+returns c = cc
+
+pub eval-spec : {M : Type 1} → statement M
+eval-spec = tie.close (tie.spec mul-requires add-requires returns)

@@ -1,0 +1,3 @@
+pub mod Refuse
+pub mod Geometry
+pub mod Size

@@ -1,0 +1,43 @@
+-- `numbers::Interval::mul` meets its contract: what its calls ensure, put together, is `mulI`. Assumes nothing.
+use borrow.Author.Needs.{needs}
+use Rattle.numbers.specs.Ops.{mulI}
+use Rattle.numbers.proofs.Interval.mul.Statement.{statement}
+use Rattle.numbers.proofs.Interval.mul.Tie as tie
+
+least-requires : tie.Need-least-requires
+least-requires c κs = search needs
+
+least-requires-2 : tie.Need-least-requires-2
+least-requires-2 c κs = search needs
+
+least-requires-3 : tie.Need-least-requires-3
+least-requires-3 c κs = search needs
+
+greatest-requires : tie.Need-greatest-requires
+greatest-requires c κs = search needs
+
+greatest-requires-2 : tie.Need-greatest-requires-2
+greatest-requires-2 c κs = search needs
+
+greatest-requires-3 : tie.Need-greatest-requires-3
+greatest-requires-3 c κs = search needs
+
+outward-requires : tie.Need-outward-requires
+outward-requires c κs = search needs
+
+returns : tie.Need-returns
+unfolding mulI
+returns c = cc
+
+pub mul-spec : {M : Type 1} → statement M
+mul-spec =
+    tie.close
+    (tie.spec
+    least-requires
+    least-requires-2
+    least-requires-3
+    greatest-requires
+    greatest-requires-2
+    greatest-requires-3
+    outward-requires
+    returns)

@@ -1,0 +1,82 @@
+-- The operations on intervals, over the values of `logic/Lib/Ieee.antt`. Definitions only.
+-- The six that a caller sees are `unfoldable`: each names its operands several times, and a chain of a dozen would be too long to compute if they opened by themselves.
+use Prim.Native.Nat.{ℕ}
+use mathlib.Core.Bool.{Bool, true, false, cond, _&&_, _||_}
+use lib.IntN.{pos}
+use lib.Ieee.{Float, nan, inf, fin, binary64, isNan, add, sub, mul, neg, lt, le, eq}
+use Rattle.numbers.specs.Next.{nextUp, nextDown}
+use Rattle.numbers.specs.declared.Interval.{Interval}
+use Rattle.numbers.specs.declared.Sign.{Sign}
+use Rattle.numbers.specs.declared.Sign.the-variants.{Negative, Zero, Positive, Unresolved}
+
+-- +0
+abbrev pub zeroF : Float
+zeroF = fin false 0 (pos 0)
+
+abbrev pub entire : Interval
+entire = record { lo = inf true; hi = inf false }
+
+-- a bound that is not a number gives the whole line
+abbrev pub checkedI : Float → Float → Interval
+checkedI lo hi = cond (isNan lo) entire (cond (isNan hi) entire (record { lo = lo; hi = hi }))
+
+-- the low bound moves one float down, and the high one up
+abbrev pub outwardI : Float → Float → Interval
+outwardI lo hi = checkedI (nextDown lo) (nextUp hi)
+
+-- the lesser and the greater of two; a NaN where one of them is
+abbrev pub leastF : Float → Float → Float
+leastF a b = cond (le a b) a (cond (le b a) b nan)
+
+abbrev pub greatestF : Float → Float → Float
+greatestF a b = cond (le b a) a (cond (le a b) b nan)
+
+unfoldable pub pointI : Float → Interval
+pointI x = checkedI x x
+
+unfoldable pub addI : Interval → Interval → Interval
+addI x y = outwardI (add binary64 (x .lo) (y .lo)) (add binary64 (x .hi) (y .hi))
+
+unfoldable pub subI : Interval → Interval → Interval
+subI x y = outwardI (sub binary64 (x .lo) (y .hi)) (sub binary64 (x .hi) (y .lo))
+
+-- the least and the greatest of the four products
+abbrev pub least4 : Float → Float → Float → Float → Float
+least4 a b c d = leastF (leastF a b) (leastF c d)
+
+abbrev pub greatest4 : Float → Float → Float → Float → Float
+greatest4 a b c d = greatestF (greatestF a b) (greatestF c d)
+
+abbrev pub onProducts : (Float → Float → Float → Float → Float) → Interval → Interval → Float
+onProducts f x y = f (mul binary64 (x .lo) (y .lo)) (mul binary64 (x .lo) (y .hi)) (mul binary64 (x .hi) (y .lo)) (mul binary64 (x .hi) (y .hi))
+
+unfoldable pub mulI : Interval → Interval → Interval
+mulI x y = outwardI (onProducts least4 x y) (onProducts greatest4 x y)
+
+-- a change of sign is exact, and moves no bound
+unfoldable pub negI : Interval → Interval
+negI x = checkedI (neg (x .hi)) (neg (x .lo))
+
+-- `contains`: the value lies between the bounds
+abbrev pub containsI : Interval → Float → Bool
+containsI x v = le (x .lo) v && le v (x .hi)
+
+-- 01, "A square spanning zero starts at 0; none's low bound is below 0"
+abbrev pub squareLow : Bool → Float → Float
+squareLow spans q = cond spans zeroF (greatestF (nextDown q) zeroF)
+
+unfoldable pub sqrI : Interval → Interval
+sqrI x =
+    let a = mul binary64 (x .lo) (x .lo) in
+    let b = mul binary64 (x .hi) (x .hi) in
+    checkedI (squareLow (containsI x zeroF) (leastF a b)) (nextUp (greatestF a b))
+
+abbrev pub pickSign : Bool → Sign → Sign → Sign
+pickSign true a b = a
+pickSign false a b = b
+
+abbrev pub signOf : Float → Float → Sign
+signOf lo hi = pickSign (lt zeroF lo) Positive (pickSign (lt hi zeroF) Negative (pickSign (eq lo zeroF && eq hi zeroF) Zero Unresolved))
+
+unfoldable pub signI : Interval → Sign
+signI x = signOf (x .lo) (x .hi)

@@ -1,0 +1,218 @@
+// Interval arithmetic with outward rounding (interval.rs): each bound is worked out in floats, rounded to nearest,
+// and then moved one float outward, so that it encloses the exact result (`specs/Enclose.antt`).
+ghost use mathlib.Core.Path.{_≡_};
+ghost use Prim.Native.Nat.{_≤_};
+ghost use Rattle.numbers.specs.Next.{upBits, downBits, nextUp, nextDown, NEGINF};
+ghost use Rattle.numbers.specs.Ops.{checkedI, outwardI, leastF, greatestF, pointI, addI, subI, mulI, negI, containsI, squareLow, sqrI, signOf, signI};
+
+// One step up among the bit patterns of the values that are no NaN.
+fn up_bits(b: u64) -> u64
+    ensures { λ r. ⌜ r ≡ upBits b ⌝ }
+{
+    if b == 0x7ff0000000000000 {
+        b
+    } else if b == 0 {
+        1
+    } else if b < 0x8000000000000000 {
+        b + 1
+    } else if b == 0x8000000000000000 {
+        1
+    } else {
+        b - 1
+    }
+}
+
+// One step down. The largest pattern of a value that is no NaN is that of -infinity.
+fn down_bits(b: u64) -> u64
+    requires { ⌜ b ≤ NEGINF ⌝ }
+    ensures { λ r. ⌜ r ≡ downBits b ⌝ }
+{
+    if b == 0xfff0000000000000 {
+        b
+    } else if b == 0 {
+        0x8000000000000001
+    } else if b < 0x8000000000000000 {
+        b - 1
+    } else {
+        b + 1
+    }
+}
+
+// Rust's `f64::next_up`.
+pub fn next_up(x: f64) -> f64
+    ensures { λ r. ⌜ r ≡ nextUp x ⌝ }
+{
+    if x != x {
+        return x;
+    }
+    f64::from_bits(up_bits(f64::to_bits(x)))
+}
+
+// Rust's `f64::next_down`.
+pub fn next_down(x: f64) -> f64
+    ensures { λ r. ⌜ r ≡ nextDown x ⌝ }
+{
+    if x != x {
+        return x;
+    }
+    f64::from_bits(down_bits(f64::to_bits(x)))
+}
+
+// A closed interval of numbers, which holds the exact value that it stands for. A bound that is an
+// infinity bounds nothing.
+pub struct Interval {
+    pub lo: f64,
+    pub hi: f64,
+}
+
+pub enum Sign {
+    Negative,
+    Zero,
+    Positive,
+    Unresolved,
+}
+
+// The whole line where a bound is a NaN.
+fn checked(lo: f64, hi: f64) -> Interval
+    ensures { λ r. ⌜ r ≡ checkedI lo hi ⌝ }
+{
+    if lo != lo {
+        return Interval {
+            lo: -1.0 / 0.0,
+            hi: 1.0 / 0.0,
+        };
+    }
+    if hi != hi {
+        return Interval {
+            lo: -1.0 / 0.0,
+            hi: 1.0 / 0.0,
+        };
+    }
+    Interval { lo: lo, hi: hi }
+}
+
+// Bounds that were rounded to nearest, each moved one float outward.
+fn outward(lo: f64, hi: f64) -> Interval
+    ensures { λ r. ⌜ r ≡ outwardI lo hi ⌝ }
+{
+    checked(next_down(lo), next_up(hi))
+}
+
+// The lesser of two, and a NaN where one of them is.
+fn least(a: f64, b: f64) -> f64
+    ensures { λ r. ⌜ r ≡ leastF a b ⌝ }
+{
+    if a <= b {
+        return a;
+    }
+    if b <= a {
+        return b;
+    }
+    0.0 / 0.0
+}
+
+// The greater of two, and a NaN where one of them is.
+fn greatest(a: f64, b: f64) -> f64
+    ensures { λ r. ⌜ r ≡ greatestF a b ⌝ }
+{
+    if b <= a {
+        return a;
+    }
+    if a <= b {
+        return b;
+    }
+    0.0 / 0.0
+}
+
+// The low bound of a square: 0 where it spans zero, else from q, the lesser of its ends' squares.
+fn square_low(spans: bool, q: f64) -> f64
+    ensures { λ r. ⌜ r ≡ squareLow spans q ⌝ }
+{
+    if spans {
+        return 0.0;
+    }
+    greatest(next_down(q), 0.0)
+}
+
+fn sign_of(lo: f64, hi: f64) -> Sign
+    ensures { λ r. ⌜ r ≡ signOf lo hi ⌝ }
+{
+    if 0.0 < lo {
+        return Sign::Positive;
+    }
+    if hi < 0.0 {
+        return Sign::Negative;
+    }
+    if lo == 0.0 {
+        if hi == 0.0 {
+            return Sign::Zero;
+        }
+    }
+    Sign::Unresolved
+}
+
+impl Interval {
+    // The interval of one number, and the whole line for a NaN.
+    pub fn point(value: f64) -> Interval
+        ensures { λ r. ⌜ r ≡ pointI value ⌝ }
+    {
+        checked(value, value)
+    }
+
+    pub fn add(self, o: Interval) -> Interval
+        ensures { λ r. ⌜ r ≡ addI self o ⌝ }
+    {
+        outward(self.lo + o.lo, self.hi + o.hi)
+    }
+
+    pub fn sub(self, o: Interval) -> Interval
+        ensures { λ r. ⌜ r ≡ subI self o ⌝ }
+    {
+        outward(self.lo - o.hi, self.hi - o.lo)
+    }
+
+    pub fn mul(self, o: Interval) -> Interval
+        ensures { λ r. ⌜ r ≡ mulI self o ⌝ }
+    {
+        let a = self.lo * o.lo;
+        let b = self.lo * o.hi;
+        let c = self.hi * o.lo;
+        let d = self.hi * o.hi;
+        outward(
+            least(least(a, b), least(c, d)),
+            greatest(greatest(a, b), greatest(c, d)),
+        )
+    }
+
+    // No bound moves, since a change of sign is exact.
+    pub fn neg(self) -> Interval
+        ensures { λ r. ⌜ r ≡ negI self ⌝ }
+    {
+        checked(-self.hi, -self.lo)
+    }
+
+    // Whether value lies inside the interval.
+    pub fn contains(self, value: f64) -> bool
+        ensures { λ r. ⌜ r ≡ containsI self value ⌝ }
+    {
+        (self.lo <= value) & (value <= self.hi)
+    }
+
+    // The square, which unlike x * x is never negative.
+    pub fn sqr(self) -> Interval
+        ensures { λ r. ⌜ r ≡ sqrI self ⌝ }
+    {
+        let a = self.lo * self.lo;
+        let b = self.hi * self.hi;
+        checked(
+            square_low(self.contains(0.0), least(a, b)),
+            next_up(greatest(a, b)),
+        )
+    }
+
+    pub fn sign(self) -> Sign
+        ensures { λ r. ⌜ r ≡ signI self ⌝ }
+    {
+        sign_of(self.lo, self.hi)
+    }
+}

@@ -1,0 +1,39 @@
+-- `signs::apart` meets its contract: what its calls ensure, put together, is `apartS`. Assumes nothing.
+use borrow.Author.Needs.{needs}
+use Rattle.signs.specs.Signs.{apartS}
+use Rattle.signs.proofs.apart.Statement.{statement}
+use Rattle.signs.proofs.apart.Tie as tie
+
+vector-requires : tie.Need-vector-requires
+vector-requires c κs = search needs
+
+dot-requires : tie.Need-dot-requires
+dot-requires c κs = search needs
+
+point-requires : tie.Need-point-requires
+point-requires c κs = search needs
+
+sqr-requires : tie.Need-sqr-requires
+sqr-requires c κs = search needs
+
+sub-requires : tie.Need-sub-requires
+sub-requires c κs = search needs
+
+sign-requires : tie.Need-sign-requires
+sign-requires c κs = search needs
+
+returns : tie.Need-returns
+unfolding apartS
+returns c = cc
+
+pub apart-spec : {M : Type 1} → statement M
+apart-spec =
+    tie.close
+    (tie.spec
+    vector-requires
+    dot-requires
+    point-requires
+    sqr-requires
+    sub-requires
+    sign-requires
+    returns)

@@ -1,0 +1,25 @@
+-- `signs::increasing` meets its contract: what its calls ensure, put together, is `increasingS`. Assumes nothing.
+use borrow.Author.Needs.{needs}
+use Rattle.signs.specs.Signs.{increasingS}
+use Rattle.signs.proofs.increasing.Statement.{statement}
+use Rattle.signs.proofs.increasing.Tie as tie
+
+vector-requires : tie.Need-vector-requires
+vector-requires c κs = search needs
+
+point3-requires : tie.Need-point3-requires
+point3-requires c κs = search needs
+
+dot-requires : tie.Need-dot-requires
+dot-requires c κs = search needs
+
+sign-requires : tie.Need-sign-requires
+sign-requires c κs = search needs
+
+returns : tie.Need-returns
+unfolding increasingS
+returns c = cc
+
+pub increasing-spec : {M : Type 1} → statement M
+increasing-spec =
+    tie.close (tie.spec vector-requires point3-requires dot-requires sign-requires returns)

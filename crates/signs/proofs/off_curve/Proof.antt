@@ -1,0 +1,47 @@
+-- `signs::off_curve` meets its contract: what its calls ensure, put together, is `offCurveS`. Assumes nothing.
+use borrow.Author.Needs.{needs}
+use Rattle.signs.specs.Signs.{offCurveS}
+use Rattle.signs.proofs.off_curve.Statement.{statement}
+use Rattle.signs.proofs.off_curve.Tie as tie
+
+vector-requires : tie.Need-vector-requires
+vector-requires c κs = search needs
+
+point-requires : tie.Need-point-requires
+point-requires c κs = search needs
+
+point-requires-2 : tie.Need-point-requires-2
+point-requires-2 c κs = search needs
+
+add-requires : tie.Need-add-requires
+add-requires c κs = search needs
+
+dot-requires : tie.Need-dot-requires
+dot-requires c κs = search needs
+
+sqr-requires : tie.Need-sqr-requires
+sqr-requires c κs = search needs
+
+sub-requires : tie.Need-sub-requires
+sub-requires c κs = search needs
+
+sign-requires : tie.Need-sign-requires
+sign-requires c κs = search needs
+
+returns : tie.Need-returns
+unfolding offCurveS
+returns c = cc
+
+pub off-curve-spec : {M : Type 1} → statement M
+off-curve-spec =
+    tie.close
+    (tie.spec
+    vector-requires
+    point-requires
+    point-requires-2
+    add-requires
+    dot-requires
+    sqr-requires
+    sub-requires
+    sign-requires
+    returns)

@@ -1,0 +1,29 @@
+-- `vectors::polyhedron::dot` meets its contract: what its calls ensure, put together, is `dotI`. Assumes nothing.
+use borrow.Author.Needs.{needs}
+use Rattle.vectors.specs.Space.{dotI}
+use Rattle.vectors.proofs.polyhedron.dot.Statement.{statement}
+use Rattle.vectors.proofs.polyhedron.dot.Tie as tie
+
+mul-requires : tie.Need-mul-requires
+mul-requires c κs = search needs
+
+mul-requires-2 : tie.Need-mul-requires-2
+mul-requires-2 c κs = search needs
+
+add-requires : tie.Need-add-requires
+add-requires c κs = search needs
+
+mul-requires-3 : tie.Need-mul-requires-3
+mul-requires-3 c κs = search needs
+
+add-requires-2 : tie.Need-add-requires-2
+add-requires-2 c κs = search needs
+
+returns : tie.Need-returns
+unfolding dotI
+returns c = cc
+
+pub dot-spec : {M : Type 1} → statement M
+dot-spec =
+    tie.close
+    (tie.spec mul-requires mul-requires-2 add-requires mul-requires-3 add-requires-2 returns)

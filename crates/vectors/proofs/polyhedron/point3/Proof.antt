@@ -1,0 +1,21 @@
+-- `vectors::polyhedron::point3` meets its contract: what its calls ensure, put together, is `pointI3`. Assumes nothing.
+use borrow.Author.Needs.{needs}
+use Rattle.vectors.specs.Space.{pointI3}
+use Rattle.vectors.proofs.polyhedron.point3.Statement.{statement}
+use Rattle.vectors.proofs.polyhedron.point3.Tie as tie
+
+point-requires : tie.Need-point-requires
+point-requires c κs = search needs
+
+point-requires-2 : tie.Need-point-requires-2
+point-requires-2 c κs = search needs
+
+point-requires-3 : tie.Need-point-requires-3
+point-requires-3 c κs = search needs
+
+returns : tie.Need-returns
+unfolding pointI3
+returns c = cc
+
+pub point3-spec : {M : Type 1} → statement M
+point3-spec = tie.close (tie.spec point-requires point-requires-2 point-requires-3 returns)

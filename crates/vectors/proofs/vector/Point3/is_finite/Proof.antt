@@ -1,0 +1,22 @@
+-- `vectors::vector::Point3::is_finite` meets its contract: what its calls ensure, put together, is `finitePoint`. Assumes nothing.
+use borrow.Author.Needs.{needs}
+use Rattle.vectors.specs.Space.{finitePoint}
+use Rattle.vectors.proofs.vector.Point3.is_finite.Statement.{statement}
+use Rattle.vectors.proofs.vector.Point3.is_finite.Tie as tie
+
+is-finite-requires : tie.Need-is-finite-requires
+is-finite-requires c κs = search needs
+
+is-finite-requires-2 : tie.Need-is-finite-requires-2
+is-finite-requires-2 c κs = search needs
+
+is-finite-requires-3 : tie.Need-is-finite-requires-3
+is-finite-requires-3 c κs = search needs
+
+returns : tie.Need-returns
+unfolding finitePoint
+returns c = cc
+
+pub is-finite-spec : {M : Type 1} → statement M
+is-finite-spec =
+    tie.close (tie.spec is-finite-requires is-finite-requires-2 is-finite-requires-3 returns)

@@ -1,0 +1,76 @@
+-- Points and vectors of floats (vector.rs), and the same as intervals (`vector` and `dot` of polyhedron.rs). Each step is one IEEE 754 operation on binary64. Definitions only.
+use mathlib.Core.Bool.{Bool, _&&_}
+use lib.Ieee.{Float, binary64, add, sub, mul}
+use lib.Ieee.Scale.{finite}
+use Rattle.numbers.specs.declared.Interval.{Interval}
+use Rattle.vectors.specs.declared.vector.Point3.{Point3}
+use Rattle.vectors.specs.declared.vector.Vec3.{Vec3}
+use Rattle.vectors.specs.declared.polyhedron.Interval3.{Interval3}
+use Rattle.numbers.specs.Ops.{pointI, addI, subI, mulI}
+
+infixl 60 _+ᶠ_
+infixl 60 _-ᶠ_
+infixl 70 _*ᶠ_
+abbrev pub _+ᶠ_ : Float → Float → Float
+x +ᶠ y = add binary64 x y
+
+abbrev pub _-ᶠ_ : Float → Float → Float
+x -ᶠ y = sub binary64 x y
+
+abbrev pub _*ᶠ_ : Float → Float → Float
+x *ᶠ y = mul binary64 x y
+
+-- ---- points and vectors of floats
+
+-- `is_finite` of a point
+unfoldable pub finitePoint : Point3 → Bool
+finitePoint p = finite (p .x) && finite (p .y) && finite (p .z)
+
+-- p - q, the way from q to p
+unfoldable pub minus : Point3 → Point3 → Vec3
+minus p q = record { x = p .x -ᶠ q .x; y = p .y -ᶠ q .y; z = p .z -ᶠ q .z }
+
+-- p + v
+unfoldable pub along : Point3 → Vec3 → Point3
+along p v = record { x = p .x +ᶠ v .x; y = p .y +ᶠ v .y; z = p .z +ᶠ v .z }
+
+-- v + w, v - w, v · s
+unfoldable pub sumV : Vec3 → Vec3 → Vec3
+sumV v w = record { x = v .x +ᶠ w .x; y = v .y +ᶠ w .y; z = v .z +ᶠ w .z }
+
+unfoldable pub minusV : Vec3 → Vec3 → Vec3
+minusV v w = record { x = v .x -ᶠ w .x; y = v .y -ᶠ w .y; z = v .z -ᶠ w .z }
+
+unfoldable pub scaledV : Vec3 → Float → Vec3
+scaledV v s = record { x = v .x *ᶠ s; y = v .y *ᶠ s; z = v .z *ᶠ s }
+
+-- 01, "Dot products add x, y, z terms in that order"
+unfoldable pub dotV : Vec3 → Vec3 → Float
+dotV v w = v .x *ᶠ w .x +ᶠ v .y *ᶠ w .y +ᶠ v .z *ᶠ w .z
+
+unfoldable pub crossV : Vec3 → Vec3 → Vec3
+crossV v w =
+    record {
+      x = v .y *ᶠ w .z -ᶠ v .z *ᶠ w .y;
+      y = v .z *ᶠ w .x -ᶠ v .x *ᶠ w .z;
+      z = v .x *ᶠ w .y -ᶠ v .y *ᶠ w .x;
+    }
+
+-- ---- vectors of intervals
+
+-- a vector of floats, each an interval of one number
+unfoldable pub pointI3 : Vec3 → Interval3
+pointI3 v = record { x = pointI (v .x); y = pointI (v .y); z = pointI (v .z) }
+
+-- p - q (polyhedron.rs, `vector`)
+unfoldable pub vectorI : Point3 → Point3 → Interval3
+vectorI p q =
+    record {
+      x = subI (pointI (p .x)) (pointI (q .x));
+      y = subI (pointI (p .y)) (pointI (q .y));
+      z = subI (pointI (p .z)) (pointI (q .z));
+    }
+
+-- polyhedron.rs, `dot`
+unfoldable pub dotI : Interval3 → Interval3 → Interval
+dotI a b = addI (addI (mulI (a .x) (b .x)) (mulI (a .y) (b .y))) (mulI (a .z) (b .z))
