@@ -15,7 +15,7 @@ use Rattle.vectors.specs.declared.polyhedron.Interval3.{Interval3}
 use Rattle.vectors.specs.declared.vector.Point3.{Point3}
 use Rattle.vectors.specs.declared.vector.Vec3.{Vec3}
 use Rattle.numbers.specs.Ops.{pointI, addI, subI, mulI, negI, containsI, sqrI, signI}
-use Rattle.vectors.specs.Space.{pointI3, vectorI, dotI}
+use Rattle.vectors.specs.Space.{differenceI, pointI3, vectorI, dotI}
 use Rattle.enclosure.specs.Value.{ONE, units, value, Holds, Real, Whole3, minusW, dotW, valueP, valueV, RealP, RealV, Holds3, SignOf}
 use Rattle.enclosure.specs.Laws.Pairs.{plus, minus, In, over, under}
 use Rattle.enclosure.specs.Laws.Near.{own}
@@ -82,16 +82,17 @@ pub point3-holds : (v : Vec3) → RealV v → Holds3 1074 (pointI3 v) (valueV v)
 unfolding pointI3
 point3-holds v r = record { x = point-holds (v .x) (r .x); y = point-holds (v .y) (r .y); z = point-holds (v .z) (r .z) }
 
-difference : (a b : Float) → Real a → Real b → Holds 1074 (subI (pointI a) (pointI b)) (value a -ℤ value b)
-difference a b f g = sub-encloses 1074 (pointI a) (pointI b) (value a) (value b) (point-holds a f) (point-holds b g)
+pub difference-holds : (a b : Float) → Real a → Real b → Holds 1074 (differenceI a b) (value a -ℤ value b)
+unfolding differenceI
+difference-holds a b f g = sub-encloses 1074 (pointI a) (pointI b) (value a) (value b) (point-holds a f) (point-holds b g)
 
 pub vector-holds : (p q : Point3) → RealP p → RealP q → Holds3 1074 (vectorI p q) (minusW (valueP p) (valueP q))
 unfolding vectorI
 vector-holds p q f g =
     record {
-      x = difference (p .x) (q .x) (f .x) (g .x);
-      y = difference (p .y) (q .y) (f .y) (g .y);
-      z = difference (p .z) (q .z) (f .z) (g .z);
+      x = difference-holds (p .x) (q .x) (f .x) (g .x);
+      y = difference-holds (p .y) (q .y) (f .y) (g .y);
+      z = difference-holds (p .z) (q .z) (f .z) (g .z);
     }
 
 pub dot-encloses : (j k : ℕ) (a b : Interval3) (A B : Whole3) → Holds3 j a A → Holds3 k b B → Holds (j + k) (dotI a b) (dotW A B)

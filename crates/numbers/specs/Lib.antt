@@ -2,3 +2,4 @@ pub mod Next
 pub mod Ops
 pub mod Worked
 pub mod Bits
+pub mod Unique

@@ -1,7 +1,6 @@
--- The operations on intervals, over the values of `logic/Lib/Ieee.antt`. Definitions only.
--- The six that a caller sees are `unfoldable`: each names its operands several times, and a chain of a dozen would be too long to compute if they opened by themselves.
-use Prim.Native.Nat.{ℕ}
-use mathlib.Core.Bool.{Bool, true, false, cond, _&&_, _||_}
+-- The operations on intervals (01, "Intervals"; interval.rs), over IEEE 754 as `lib.Ieee` has it. Definitions only.
+-- Those that a caller sees are `unfoldable`: each names its operands several times, and a chain of a dozen would be too long to compute if they opened by themselves.
+use mathlib.Core.Bool.{Bool, true, false, cond, _&&_}
 use lib.IntN.{pos}
 use lib.Ieee.{Float, nan, inf, fin, binary64, isNan, add, sub, mul, neg, lt, le, eq}
 use Rattle.numbers.specs.Next.{nextUp, nextDown}
@@ -13,14 +12,15 @@ use Rattle.numbers.specs.declared.Sign.the-variants.{Negative, Zero, Pos
 abbrev pub zeroF : Float
 zeroF = fin false 0 (pos 0)
 
+-- the whole line (`Interval::ENTIRE`)
 abbrev pub entire : Interval
 entire = record { lo = inf true; hi = inf false }
 
--- a bound that is not a number gives the whole line
+-- 01, "A not-a-number bound gives the whole line" (`Interval::checked`)
 abbrev pub checkedI : Float → Float → Interval
 checkedI lo hi = cond (isNan lo) entire (cond (isNan hi) entire (record { lo = lo; hi = hi }))
 
--- the low bound moves one float down, and the high one up
+-- 01, "then the low bound moves one float down and the high one up"
 abbrev pub outwardI : Float → Float → Interval
 outwardI lo hi = checkedI (nextDown lo) (nextUp hi)
 
@@ -31,16 +31,18 @@ leastF a b = cond (le a b) a (cond (le b a) b nan)
 abbrev pub greatestF : Float → Float → Float
 greatestF a b = cond (le b a) a (cond (le a b) b nan)
 
+-- 01, "A point has both equal"
 unfoldable pub pointI : Float → Interval
 pointI x = checkedI x x
 
+-- 01, "A sum, difference or product is worked out in floats", then moved
 unfoldable pub addI : Interval → Interval → Interval
 addI x y = outwardI (add binary64 (x .lo) (y .lo)) (add binary64 (x .hi) (y .hi))
 
 unfoldable pub subI : Interval → Interval → Interval
 subI x y = outwardI (sub binary64 (x .lo) (y .hi)) (sub binary64 (x .hi) (y .lo))
 
--- the least and the greatest of the four products
+-- 01, "products take the least and greatest of the four"
 abbrev pub least4 : Float → Float → Float → Float → Float
 least4 a b c d = leastF (leastF a b) (leastF c d)
 
@@ -53,7 +55,7 @@ onProducts f x y = f (mul binary64 (x .lo) (y .lo)) (mul binary64 (x .lo) (y .hi
 unfoldable pub mulI : Interval → Interval → Interval
 mulI x y = outwardI (onProducts least4 x y) (onProducts greatest4 x y)
 
--- a change of sign is exact, and moves no bound
+-- `neg`: a change of sign is exact, and moves no bound
 unfoldable pub negI : Interval → Interval
 negI x = checkedI (neg (x .hi)) (neg (x .lo))
 
@@ -71,6 +73,7 @@ sqrI x =
     let b = mul binary64 (x .hi) (x .hi) in
     checkedI (squareLow (containsI x zeroF) (leastF a b)) (nextUp (greatestF a b))
 
+-- 01, "Sign: positive if low > 0, negative if high < 0, zero if both are 0, else unresolved"
 abbrev pub pickSign : Bool → Sign → Sign → Sign
 pickSign true a b = a
 pickSign false a b = b

@@ -8,7 +8,7 @@ use Rattle.vectors.specs.declared.vector.Vec3.{Vec3}
 use Rattle.numbers.specs.Ops.{pointI}
 use Rattle.vectors.specs.Space.{vectorI, dotI}
 use Rattle.enclosure.specs.Value.{value, valueP, valueV, Real, RealP, RealV, Whole3, minusW, dotW, Holds, SignOf}
-use Rattle.enclosure.specs.Enclose.{point-holds, point3-holds, vector-holds, add-encloses, sub-encloses, sqr-encloses, dot-encloses, rescaled, sign-is}
+use Rattle.enclosure.specs.Enclose.{point-holds, point3-holds, difference-holds, vector-holds, add-encloses, sub-encloses, sqr-encloses, dot-encloses, rescaled, sign-is}
 use Rattle.geometry.specs.declared.surface.Plane.{Plane}
 use Rattle.signs.specs.Signs.{increasingS, spanS, apartS, offPlaneS, offCurveS}
 
@@ -27,7 +27,7 @@ increasing-says d start end rd rs re = sign-is 2148 _ _ (dot-encloses 1074 1074 
 -- positive: hi is above lo
 pub span-says : (lo hi : Float) → Real lo → Real hi → SignOf (spanS lo hi) (value hi -ℤ value lo)
 unfolding spanS
-span-says lo hi rl rh = sign-is 1074 _ _ (sub-encloses 1074 _ _ _ _ (point-holds hi rh) (point-holds lo rl))
+span-says lo hi rl rh = sign-is 1074 _ _ (difference-holds hi lo rh rl)
 
 way-squared : (p q : Point3) → RealP p → RealP q → Holds 2148 (dotI (vectorI p q) (vectorI p q)) (squared (way p q))
 way-squared p q rp rq = dot-encloses 1074 1074 _ _ (way p q) (way p q) (vector-holds p q rp rq) (vector-holds p q rp rq)

@@ -4,7 +4,7 @@ use Rattle.numbers.specs.declared.Sign.{Sign}
 use Rattle.numbers.specs.Ops.{pointI, addI, subI, sqrI, signI}
 use Rattle.vectors.specs.declared.vector.Point3.{Point3}
 use Rattle.vectors.specs.declared.vector.Vec3.{Vec3}
-use Rattle.vectors.specs.Space.{pointI3, vectorI, dotI}
+use Rattle.vectors.specs.Space.{differenceI, pointI3, vectorI, dotI}
 use Rattle.geometry.specs.declared.surface.Plane.{Plane}
 
 -- 01, "Splitting", 7: "Interval of direction·(end - start)"
@@ -13,7 +13,7 @@ increasingS d start end = signI (dotI (vectorI end start) (pointI3 d))
 
 -- 01, "Splitting", 8: "interval hi - lo"
 unfoldable pub spanS : Float → Float → Sign
-spanS lo hi = signI (subI (pointI hi) (pointI lo))
+spanS lo hi = signI (differenceI hi lo)
 
 -- 01, "Splitting", 10: "squared distance (a dot product) less squared precision"
 unfoldable pub apartS : Point3 → Point3 → Float → Sign

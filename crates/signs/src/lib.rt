@@ -3,6 +3,7 @@
 use geometry::surface::Plane;
 use numbers::Interval;
 use numbers::Sign;
+use vectors::polyhedron::difference;
 use vectors::polyhedron::dot;
 use vectors::polyhedron::point3;
 use vectors::polyhedron::vector;
@@ -22,7 +23,7 @@ pub fn increasing(direction: Vec3, start: Point3, end: Point3) -> Sign
 pub fn span(lo: f64, hi: f64) -> Sign
     ensures { λ r. ⌜ r ≡ spanS lo hi ⌝ }
 {
-    Interval::point(hi).sub(Interval::point(lo)).sign()
+    difference(hi, lo).sign()
 }
 
 // Whether p and q are further apart than the precision (positive).
@@ -47,7 +48,7 @@ pub fn off_plane(plane: Plane, p: Point3, tolerance: f64) -> Sign
 pub fn off_curve(p: Point3, q: Point3, vertex: f64, edge: f64) -> Sign
     ensures { λ r. ⌜ r ≡ offCurveS p q vertex edge ⌝ }
 {
-    let delta = vector(p, q);
+    let way = vector(p, q);
     let reach = Interval::point(vertex).add(Interval::point(edge));
-    dot(delta, delta).sub(reach.sqr()).sign()
+    dot(way, way).sub(reach.sqr()).sign()
 }

@@ -62,14 +62,13 @@ crossV v w =
 unfoldable pub pointI3 : Vec3 → Interval3
 pointI3 v = record { x = pointI (v .x); y = pointI (v .y); z = pointI (v .z) }
 
+-- a - b, of two floats
+unfoldable pub differenceI : Float → Float → Interval
+differenceI a b = subI (pointI a) (pointI b)
+
 -- p - q (polyhedron.rs, `vector`)
 unfoldable pub vectorI : Point3 → Point3 → Interval3
-vectorI p q =
-    record {
-      x = subI (pointI (p .x)) (pointI (q .x));
-      y = subI (pointI (p .y)) (pointI (q .y));
-      z = subI (pointI (p .z)) (pointI (q .z));
-    }
+vectorI p q = record { x = differenceI (p .x) (q .x); y = differenceI (p .y) (q .y); z = differenceI (p .z) (q .z) }
 
 -- polyhedron.rs, `dot`
 unfoldable pub dotI : Interval3 → Interval3 → Interval

@@ -1,9 +1,9 @@
 // Vectors of intervals: `vector` and `dot` of polyhedron.rs.
-use numbers::Interval;
 use crate::vector::Point3;
 use crate::vector::Vec3;
+use numbers::Interval;
 ghost use mathlib.Core.Path.{_≡_};
-ghost use Rattle.vectors.specs.Space.{pointI3, vectorI, dotI};
+ghost use Rattle.vectors.specs.Space.{differenceI, pointI3, vectorI, dotI};
 
 pub struct Interval3 {
     pub x: Interval,
@@ -22,14 +22,21 @@ pub fn point3(v: Vec3) -> Interval3
     }
 }
 
+// a - b, of two floats.
+pub fn difference(a: f64, b: f64) -> Interval
+    ensures { λ r. ⌜ r ≡ differenceI a b ⌝ }
+{
+    Interval::point(a).sub(Interval::point(b))
+}
+
 // point - origin.
 pub fn vector(point: Point3, origin: Point3) -> Interval3
     ensures { λ r. ⌜ r ≡ vectorI point origin ⌝ }
 {
     Interval3 {
-        x: Interval::point(point.x).sub(Interval::point(origin.x)),
-        y: Interval::point(point.y).sub(Interval::point(origin.y)),
-        z: Interval::point(point.z).sub(Interval::point(origin.z)),
+        x: difference(point.x, origin.x),
+        y: difference(point.y, origin.y),
+        z: difference(point.z, origin.z),
     }
 }
 

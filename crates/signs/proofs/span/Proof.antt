@@ -4,14 +4,8 @@ use Rattle.signs.specs.Signs.{spanS}
 use Rattle.signs.proofs.span.Statement.{statement}
 use Rattle.signs.proofs.span.Tie as tie
 
-point-requires : tie.Need-point-requires
-point-requires c κs = search needs
-
-point-requires-2 : tie.Need-point-requires-2
-point-requires-2 c κs = search needs
-
-sub-requires : tie.Need-sub-requires
-sub-requires c κs = search needs
+difference-requires : tie.Need-difference-requires
+difference-requires c κs = search needs
 
 sign-requires : tie.Need-sign-requires
 sign-requires c κs = search needs
@@ -21,4 +15,4 @@ unfolding spanS
 returns c = cc
 
 pub span-spec : {M : Type 1} → statement M
-span-spec = tie.close (tie.spec point-requires point-requires-2 sub-requires sign-requires returns)
+span-spec = tie.close (tie.spec difference-requires sign-requires returns)

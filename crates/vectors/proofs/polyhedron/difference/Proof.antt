@@ -1,0 +1,21 @@
+-- `vectors::polyhedron::difference` meets its contract: what its calls ensure, put together, is `differenceI`. Assumes nothing.
+use borrow.Author.Needs.{needs}
+use Rattle.vectors.specs.Space.{differenceI}
+use Rattle.vectors.proofs.polyhedron.difference.Statement.{statement}
+use Rattle.vectors.proofs.polyhedron.difference.Tie as tie
+
+point-requires : tie.Need-point-requires
+point-requires c κs = search needs
+
+point-requires-2 : tie.Need-point-requires-2
+point-requires-2 c κs = search needs
+
+sub-requires : tie.Need-sub-requires
+sub-requires c κs = search needs
+
+returns : tie.Need-returns
+unfolding differenceI
+returns c = cc
+
+pub difference-spec : {M : Type 1} → statement M
+difference-spec = tie.close (tie.spec point-requires point-requires-2 sub-requires returns)
