@@ -1,7 +1,7 @@
 // Vectors of intervals: `vector` and `dot` of polyhedron.rs.
-use numbers::Interval;
 use crate::vector::Point3;
 use crate::vector::Vec3;
+use numbers::Interval;
 ghost use mathlib.Core.Path.{_≡_};
 ghost use Rattle.vectors.specs.Space.{pointI3, vectorI, dotI};
 
