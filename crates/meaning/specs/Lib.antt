@@ -1,0 +1,9 @@
+pub mod Lists
+pub mod Floats
+pub mod Model
+pub mod Refuse
+pub mod Walks
+pub mod Inquire
+pub mod Split
+pub mod Faults
+pub mod Formed
