@@ -7,3 +7,6 @@ pub mod Inquire
 pub mod Split
 pub mod Faults
 pub mod Formed
+pub mod Computing
+pub mod Stone
+pub mod Trial
