@@ -9,4 +9,7 @@ pub mod Faults
 pub mod Formed
 pub mod Computing
 pub mod Stone
+pub mod Blade
 pub mod Trial
+pub mod Cases
+pub mod Reports

@@ -1,9 +1,8 @@
--- The trial stone as a model (01, "Trial stone"), a small one beside it, and a model with one record changed.
+-- The trial stone as a model (01, "Trial stone").
 use Prim.Native.Nat.{ℕ}
-use mathlib.Core.Bool.{Bool, true, false, cond}
+use mathlib.Core.Bool.{Bool, true, false}
 use mathlib.Core.List.{List, [], _∷_}
-use mathlib.Core.Option.{none, some}
-use lib.Dec.{eqb}
+use mathlib.Core.Option.{some}
 use lib.ListN.{length, getD}
 use lib.Ieee.{Float, binary64, round, neg}
 use Rattle.vectors.specs.declared.vector.Point3.{Point3}
@@ -12,7 +11,7 @@ use Rattle.geometry.specs.declared.tolerance.Tolerance.the-variants.{Session}
 use Rattle.store.specs.declared.Carrier.{Carrier}
 use Rattle.store.specs.declared.Carrier.the-variants as Carriers
 use Rattle.meaning.specs.Floats.{real}
-use Rattle.meaning.specs.Model.{sheet, solid, Sense, positive, negative, Body, Region, Shell, Face, Loop, Fin, Edge, Vertex, Table, Model, changed}
+use Rattle.meaning.specs.Model.{solid, Sense, positive, negative, Region, Shell, Face, Loop, Fin, Edge, Vertex, Table, Model}
 
 -- ---- floats, points, carriers
 
@@ -78,7 +77,7 @@ regionOf b s l = record { body = b; solid = s; shells = l }
 -- ---- 01, "A box from (0,0,0) to (4,3,2), all edges running along an increasing axis, precision 0.001, no own tolerances. Edge A runs
 -- (0,0,0) to (4,0,0)". Edge 0 is A. Corner i is at x = 4 where i has bit 0, y = 3 for bit 1, z = 2 for bit 2
 
-abbrev corner : ℕ → Point3
+abbrev pub corner : ℕ → Point3
 corner i =
     getD
     (at (real 0) (real 0) (real 0)
@@ -152,63 +151,3 @@ stone =
           tableOf (plane (corner 0) down)
           (plane (corner 4) up ∷ plane (corner 0) fore ∷ plane (corner 2) aft ∷ plane (corner 0) left ∷ plane (corner 1) right ∷ []);
     }
-
--- ---- the blade, the smallest model with one record of each table: a sheet of one face, whose loop runs along the edge A and back
-
-abbrev pub bladeFace : Face
-bladeFace = record { front = some 0; back = none; loops = 0 ∷ []; surface = some 0; sense = positive }
-
-abbrev pub blade : Model
-blade =
-    record {
-      precision = milli;
-      bodies = tableOf (record { kind = sheet; regions = 0 ∷ [] }) [];
-      regions = tableOf (regionOf 0 false (0 ∷ [])) [];
-      shells = tableOf (shellOf 0 (0 ∷ [])) [];
-      faces = tableOf bladeFace [];
-      loops = tableOf (loopOf 0 (0 ∷ 1 ∷ [])) [];
-      fins = tableOf (finOf 0 0 positive) (finOf 0 0 negative ∷ []);
-      edges = tableOf (edgeOf 0 0 1 (0 ∷ 1 ∷ [])) [];
-      vertices = tableOf (vertexAt (corner 0)) (vertexAt (corner 1) ∷ []);
-      curves = tableOf (line (corner 0) right) [];
-      surfaces = tableOf (plane (corner 0) up) [];
-    }
-
--- ---- a model with one record changed
-
--- r in the slot i
-abbrev pub put : {A : Type 0} → ℕ → A → Table A → Table A
-put i r t = changed t (λ j old. cond (eqb j i) r old)
-
-abbrev pub withPrecision : Float → Model → Model
-withPrecision p m = record { precision = p; bodies = m .bodies; regions = m .regions; shells = m .shells; faces = m .faces; loops = m .loops; fins = m .fins; edges = m .edges; vertices = m .vertices; curves = m .curves; surfaces = m .surfaces }
-
-abbrev pub withBody : ℕ → Body → Model → Model
-withBody i r m = record { precision = m .precision; bodies = put i r (m .bodies); regions = m .regions; shells = m .shells; faces = m .faces; loops = m .loops; fins = m .fins; edges = m .edges; vertices = m .vertices; curves = m .curves; surfaces = m .surfaces }
-
-abbrev pub withRegion : ℕ → Region → Model → Model
-withRegion i r m = record { precision = m .precision; bodies = m .bodies; regions = put i r (m .regions); shells = m .shells; faces = m .faces; loops = m .loops; fins = m .fins; edges = m .edges; vertices = m .vertices; curves = m .curves; surfaces = m .surfaces }
-
-abbrev pub withShell : ℕ → Shell → Model → Model
-withShell i r m = record { precision = m .precision; bodies = m .bodies; regions = m .regions; shells = put i r (m .shells); faces = m .faces; loops = m .loops; fins = m .fins; edges = m .edges; vertices = m .vertices; curves = m .curves; surfaces = m .surfaces }
-
-abbrev pub withFace : ℕ → Face → Model → Model
-withFace i r m = record { precision = m .precision; bodies = m .bodies; regions = m .regions; shells = m .shells; faces = put i r (m .faces); loops = m .loops; fins = m .fins; edges = m .edges; vertices = m .vertices; curves = m .curves; surfaces = m .surfaces }
-
-abbrev pub withLoop : ℕ → Loop → Model → Model
-withLoop i r m = record { precision = m .precision; bodies = m .bodies; regions = m .regions; shells = m .shells; faces = m .faces; loops = put i r (m .loops); fins = m .fins; edges = m .edges; vertices = m .vertices; curves = m .curves; surfaces = m .surfaces }
-
-abbrev pub withFin : ℕ → Fin → Model → Model
-withFin i r m = record { precision = m .precision; bodies = m .bodies; regions = m .regions; shells = m .shells; faces = m .faces; loops = m .loops; fins = put i r (m .fins); edges = m .edges; vertices = m .vertices; curves = m .curves; surfaces = m .surfaces }
-
-abbrev pub withEdge : ℕ → Edge → Model → Model
-withEdge i r m = record { precision = m .precision; bodies = m .bodies; regions = m .regions; shells = m .shells; faces = m .faces; loops = m .loops; fins = m .fins; edges = put i r (m .edges); vertices = m .vertices; curves = m .curves; surfaces = m .surfaces }
-
-abbrev pub withVertex : ℕ → Vertex → Model → Model
-withVertex i r m = record { precision = m .precision; bodies = m .bodies; regions = m .regions; shells = m .shells; faces = m .faces; loops = m .loops; fins = m .fins; edges = m .edges; vertices = put i r (m .vertices); curves = m .curves; surfaces = m .surfaces }
-
-abbrev pub withCurve : ℕ → Carrier → Model → Model
-withCurve i r m = record { precision = m .precision; bodies = m .bodies; regions = m .regions; shells = m .shells; faces = m .faces; loops = m .loops; fins = m .fins; edges = m .edges; vertices = m .vertices; curves = put i r (m .curves); surfaces = m .surfaces }
-
-abbrev pub withSurface : ℕ → Carrier → Model → Model
-withSurface i r m = record { precision = m .precision; bodies = m .bodies; regions = m .regions; shells = m .shells; faces = m .faces; loops = m .loops; fins = m .fins; edges = m .edges; vertices = m .vertices; curves = m .curves; surfaces = put i r (m .surfaces) }

@@ -15,7 +15,8 @@ use Rattle.meaning.specs.Inquire.{bodyBoundingBox, bodyVolume}
 use Rattle.meaning.specs.Split.{modelAfter, splitLineEdge}
 use Rattle.meaning.specs.Faults.{Report, checkBody, sawing, fitToSaw}
 use Rattle.meaning.specs.Formed.{wellFormed, topologicalReport}
-use Rattle.meaning.specs.Stone.{stone, loopOf, regionOf, withBody, withRegion, withLoop}
+use Rattle.meaning.specs.Stone.{stone, loopOf, regionOf}
+use Rattle.meaning.specs.Blade.{Row, _gives_, withBody, withRegion, withLoop}
 use Rattle.meaning.specs.Computing.{computing}
 
 -- ---- what is asked, and what is told
@@ -68,15 +69,7 @@ struck = withLoop 0 (loopOf 0 (0 ∷ 1 ∷ 2 ∷ [])) stone
 abbrev hollow : Model
 hollow = withBody 0 (record { kind = solid; regions = 0 ∷ [] }) (withRegion 0 (regionOf 0 false []) stone)
 
-pub record Row : Type 0 where
-  pub input : Ask
-  pub result : Told
-
-infix 20 _gives_
-abbrev _gives_ : Ask → Told → Row
-a gives t = record { input = a; result = t }
-
-abbrev pub rows : List Row
+abbrev pub rows : List (Row Ask Told)
 rows =
     (walks-of stone gives numbers (6 ∷ 12 ∷ 8 ∷ []))
     ∷ (volume-of stone gives floats (real 24 ∷ []))
