@@ -14,7 +14,7 @@ use Rattle.meaning.specs.Walks.{Ends, bodyFaces, bodyEdges, bodyVertices
 use Rattle.meaning.specs.Inquire.{bodyBoundingBox, bodyVolume}
 use Rattle.meaning.specs.Split.{ParamRange, EdgeSplit, edgeParameterBounds, splitTests, splitLineEdge, modelAfter}
 use Rattle.meaning.specs.Stone.{at, way, line, plane, right, left, up, finOf, loopOf, shellOf, regionOf, stone}
-use Rattle.meaning.specs.Blade.{Row, _gives_, blade, withPrecision, withRegion, withShell, withLoop, withFin, withCurve, withSurface, quarter, onAxis, bodyOf, asSolid, endsAre, curveIs, finsAre, faceIs, surfaceIs, loopsAre, shellIs, startAt, endAt, otherCurve, otherSurface, tolerantEdge, room}
+use Rattle.meaning.specs.Blade.{Row, _gives_, blade, withPrecision, withRegion, withShell, withLoop, withFin, withCurve, withSurface, quarter, onAxis, bodyOf, asSolid, edgeIs, endsAre, curveIs, finsAre, faceIs, surfaceIs, loopsAre, shellIs, startAt, endAt, otherCurve, otherSurface, tolerantEdge, room}
 use Rattle.meaning.specs.Computing.{computing}
 
 -- ---- walks: faces, edges, vertices
@@ -259,6 +259,14 @@ cuts =
     ∷ (within (room 4 2 3 1 4 2) gives 13 ∷ 8 ∷ [])
     ∷ (within (room 4 2 3 2 3 2) gives 13 ∷ 8 ∷ [])
     ∷ (within (room 4 2 3 2 4 1) gives 13 ∷ 8 ∷ [])
+    -- of two that refuse, the first decides
+    ∷ (record { limits = largest; model = blade; edge = 9; fraction = real 0 } gives 1 ∷ 1 ∷ [])
+    ∷ (halved (edgeIs none (some 1) none (9 ∷ []) blade) gives 3 ∷ 2 ∷ [])
+    ∷ (halved (edgeIs none (some 9) none (0 ∷ []) blade) gives 4 ∷ 7 ∷ [])
+    ∷ (halved (edgeIs (some 9) (some 1) none (0 ∷ []) blade) gives 5 ∷ 1 ∷ [])
+    ∷ (halved (withPrecision (real 1) (surfaceIs none blade)) gives 10 ∷ 4 ∷ [])
+    ∷ (halved (surfaceIs none (shellIs 0 (0 ∷ []) (0 ∷ 0 ∷ []) [] blade)) gives 11 ∷ 1 ∷ [])
+    ∷ (record { limits = room 2 1 2 2 2 2; model = shellIs 0 (0 ∷ []) (0 ∷ 0 ∷ []) [] blade; edge = 0; fraction = quarter } gives 12 ∷ 1 ∷ [])
     ∷ []
 
 cuts-hold : map (λ r. decided (r .input)) cuts ≡ map (λ r. r .result) cuts
@@ -271,6 +279,7 @@ bounds =
     (blade gives given (record { lo = real 0; hi = real 4 }))
     ∷ (finsAre (9 ∷ []) (surfaceIs none (shellIs 0 [] (0 ∷ 0 ∷ []) [] blade)) gives given (record { lo = real 0; hi = real 4 }))
     ∷ (endsAre none (some 1) blade gives refused 7)
+    ∷ (edgeIs none (some 1) none [] blade gives refused 7)
     ∷ (curveIs none blade gives refused 1)
     ∷ (endsAre (some 9) (some 1) blade gives refused 2)
     ∷ (endsAre (some 0) (some 0) blade gives refused 4)

@@ -1,7 +1,7 @@
 -- The rows of 01's "Trial stone" marked *, one statement over a table; then more about the stone. Assumes nothing.
 use Prim.Native.Nat.{ℕ, _^_}
 use mathlib.Core.Path.{_≡_, refl}
-use mathlib.Core.Bool.{Bool, true, false}
+use mathlib.Core.Bool.{true, false}
 use mathlib.Core.List.{List, [], _∷_, _++_, map}
 use lib.ListN.{length}
 use lib.Ieee.{Float, nan, binary64, toBits}
@@ -13,7 +13,7 @@ use Rattle.meaning.specs.Refuse.{Answer, refused, given}
 use Rattle.meaning.specs.Walks.{bodyFaces, bodyEdges, bodyVertices}
 use Rattle.meaning.specs.Inquire.{bodyBoundingBox, bodyVolume}
 use Rattle.meaning.specs.Split.{modelAfter, splitLineEdge}
-use Rattle.meaning.specs.Faults.{Report, checkBody, sawing, fitToSaw}
+use Rattle.meaning.specs.Faults.{checkBody, sawing, fitToSaw}
 use Rattle.meaning.specs.Formed.{wellFormed, topologicalReport}
 use Rattle.meaning.specs.Stone.{stone, loopOf, regionOf}
 use Rattle.meaning.specs.Blade.{Row, _gives_, withBody, withRegion, withLoop}
