@@ -1,16 +1,16 @@
 -- The blade, a small model to be damaged, and models with one record changed.
 use Prim.Native.Nat.{ℕ}
-use mathlib.Core.Bool.{false, cond}
+use mathlib.Core.Bool.{false}
 use mathlib.Core.List.{List, [], _∷_}
 use mathlib.Core.Option.{Option, none, some}
-use lib.Dec.{eqb}
 use lib.Ieee.{Float}
 use Rattle.vectors.specs.declared.vector.Point3.{Point3}
 use Rattle.geometry.specs.declared.tolerance.Tolerance.the-variants.{Own, Session}
 use Rattle.store.specs.declared.Carrier.{Carrier}
 use Rattle.store.specs.declared.Carrier.the-variants as Carriers
 use Rattle.meaning.specs.Floats.{_/ᶠ_, real}
-use Rattle.meaning.specs.Model.{sheet, solid, positive, negative, Body, Region, Shell, Face, Loop, Fin, Edge, Vertex, Table, Model, Limits, changed}
+use Rattle.meaning.specs.Model.{sheet, solid, positive, negative, Body, Region, Shell, Face, Loop, Fin, Edge, Vertex, Table, Model, Limits}
+use Rattle.meaning.specs.Edits.{edited}
 use Rattle.meaning.specs.Stone.{milli, at, line, plane, right, up, tableOf, vertexAt, edgeOf, finOf, loopOf, shellOf, regionOf, corner}
 
 -- ---- the blade: a sheet of one face, whose loop runs along the edge A, from (0,0,0) to (4,0,0), and back
@@ -48,7 +48,7 @@ a gives b = record { input = a; result = b }
 
 -- r in the slot i
 abbrev pub put : {A : Type 0} → ℕ → A → Table A → Table A
-put i r t = changed t (λ j old. cond (eqb j i) r old)
+put i r t = edited t i (λ old. r)
 
 abbrev pub withPrecision : Float → Model → Model
 withPrecision p m = record { precision = p; bodies = m .bodies; regions = m .regions; shells = m .shells; faces = m .faces; loops = m .loops; fins = m .fins; edges = m .edges; vertices = m .vertices; curves = m .curves; surfaces = m .surfaces }

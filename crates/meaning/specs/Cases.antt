@@ -10,12 +10,22 @@ use Rattle.geometry.specs.declared.tolerance.Tolerance.the-variants.{Own}
 use Rattle.meaning.specs.Floats.{_/ᶠ_, real}
 use Rattle.meaning.specs.Model.{positive, negative, Fin, Edge, Vertex, Model, Limits, largest}
 use Rattle.meaning.specs.Refuse.{Answer, refused, given}
+use Rattle.meaning.specs.Edits.{insertRefusal, editRefusal}
 use Rattle.meaning.specs.Walks.{Ends, bodyFaces, bodyEdges, bodyVertices, finVertices}
 use Rattle.meaning.specs.Inquire.{bodyBoundingBox, bodyVolume}
 use Rattle.meaning.specs.Split.{ParamRange, EdgeSplit, edgeParameterBounds, splitTests, splitLineEdge, modelAfter}
-use Rattle.meaning.specs.Stone.{at, way, line, plane, right, left, up, finOf, loopOf, shellOf, regionOf, stone}
-use Rattle.meaning.specs.Blade.{Row, _gives_, blade, withPrecision, withRegion, withShell, withLoop, withFin, withCurve, withSurface, quarter, onAxis, bodyOf, asSolid, edgeIs, endsAre, curveIs, finsAre, faceIs, surfaceIs, loopsAre, shellIs, startAt, endAt, otherCurve, otherSurface, tolerantEdge, room}
+use Rattle.meaning.specs.Stone.{at, way, line, plane, right, left, up, vertexAt, finOf, loopOf, shellOf, regionOf, stone}
+use Rattle.meaning.specs.Blade.{Row, _gives_, blade, withPrecision, withRegion, withShell, withLoop, withFin, withVertex, withCurve, withSurface, quarter, onAxis, bodyOf, asSolid, edgeIs, endsAre, curveIs, finsAre, faceIs, surfaceIs, loopsAre, shellIs, startAt, endAt, otherCurve, otherSurface, tolerantEdge, room}
 use Rattle.meaning.specs.Computing.{computing}
+
+-- ---- inserts and edits: the order of their refusals
+
+inserts-hold : insertRefusal true (blade .edges) 2 ∷ insertRefusal true (blade .edges) 1 ∷ insertRefusal false (blade .edges) 1 ∷ [] ≡ 0 ∷ 8 ∷ 1 ∷ []
+inserts-hold = refl
+
+edits-hold : editRefusal true true true true ∷ editRefusal true true true false ∷ editRefusal true true false false ∷ editRefusal true false false false ∷ editRefusal false false false false ∷ []
+    ≡ 0 ∷ 8 ∷ 1 ∷ 2 ∷ 1 ∷ []
+edits-hold = refl
 
 -- ---- walks: faces, edges, vertices
 
@@ -130,6 +140,8 @@ volumes =
     (withRegion 0 (regionOf 0 true (0 ∷ [])) (withRegion 1 (regionOf 0 false (1 ∷ [])) stone) gives given (0xc038_0000_0000_0000 ∷ []))
     -- a face that is listed twice counts twice: 32
     ∷ (withShell 1 (shellOf 1 (0 ∷ 1 ∷ 2 ∷ 3 ∷ 4 ∷ 5 ∷ 1 ∷ [])) stone gives given (0x4040_0000_0000_0000 ∷ []))
+    -- a corner that is not a number is not refused
+    ∷ (withVertex 0 (vertexAt (onAxis nan)) stone gives given (0x7ff8_0000_0000_0000 ∷ []))
     -- not solid, behind the walks
     ∷ (blade gives refused 6)
     ∷ (curveIs none blade gives refused 1)
@@ -328,6 +340,15 @@ split-blade : seen quarter (tolerantEdge quarter (shellIs 0 (0 ∷ []) (7 ∷ 0 
     }
 unfolding computing
 split-blade = refl
+
+-- where another loop lists a fin of the edge too, only the owner's list gains
+abbrev loopsAfter : Model → List (List ℕ)
+loopsAfter m = let after = modelAfter largest m 0 quarter in map (λ l. after .loops .slot l .fins) (0 ∷ 1 ∷ 2 ∷ [])
+
+owners-gain : loopsAfter (withLoop 1 (loopOf 1 (4 ∷ 5 ∷ 6 ∷ 7 ∷ 3 ∷ [])) stone)
+    ≡ (0 ∷ 1 ∷ 2 ∷ 24 ∷ 3 ∷ []) ∷ (4 ∷ 5 ∷ 6 ∷ 7 ∷ 3 ∷ []) ∷ (8 ∷ 25 ∷ 9 ∷ 10 ∷ 11 ∷ []) ∷ []
+unfolding computing
+owners-gain = refl
 
 -- a refused split alters nothing
 abbrev unsplit : Model → List ℕ

@@ -31,14 +31,14 @@ use Rattle.meaning.specs.Inquire.{isSolid}
 pub data Class : Type 0 where
   ofBody ofRegion ofShell ofFace ofLoop ofFin ofEdge ofVertex : Class
 
-pub record Row : Type 0 where
+pub record Reason : Type 0 where
   pub kind : ℕ
   pub class : Option Class
 
-abbrev row : ℕ → Class → Row
+abbrev row : ℕ → Class → Reason
 row k c = record { kind = k; class = some c }
 
-abbrev pub reasons : List Row
+abbrev pub reasons : List Reason
 reasons =
     row 3 ofBody  -- 1 no regions
     ∷ row 3 ofBody  -- 2 first region solid
@@ -68,7 +68,7 @@ reasons =
     ∷ record { kind = 8; class = none }  -- 26 other geometry failure
     ∷ []
 
-abbrev pub reasonRow : ℕ → Row
+abbrev pub reasonRow : ℕ → Reason
 reasonRow n = getD reasons (n - 1) (record { kind = 0; class = none })
 
 -- ---- findings

@@ -6,26 +6,14 @@ use mathlib.Core.List.{List, [], _∷_}
 use mathlib.Core.Option.{Option, none, some}
 use lib.Dec.{eqb, leb, ltb}
 use lib.ListN.{length}
-use lib.Ieee.{Float, lt, le}
-use lib.Ieee.Scale.{finite}
-use Rattle.numbers.specs.Ops.{zeroF}
-use Rattle.geometry.specs.declared.tolerance.Tolerance.{Tolerance}
-use Rattle.geometry.specs.declared.tolerance.Tolerance.the-variants.{Own, Session}
 use Rattle.meaning.specs.Lists.{all, allBelow, every, member, count, rotated, is}
 use Rattle.meaning.specs.Model.{Model, Limits, Table, has, body, region, shell, face, loop, fin, edge, vertex}
+use Rattle.meaning.specs.Edits.{toleranceOk, precisionOk}
 use Rattle.meaning.specs.Walks.{edgeWalk, edgesRefusal}
 use Rattle.meaning.specs.Faults.{CheckOptions, Report, findings, reportOf, meetsNext}
 
 -- ---- "The tables pass the test of refusal 9": 01, "a used count above capacity, a list above its limit, .. a tolerance or precision that an
 -- insert would refuse". (An unknown tag is a matter of the lent tables: here a tag is a constructor.)
-
--- 01, "an inserted tolerance or precision not finite or negative, or a zero precision"
-abbrev pub toleranceOk : Tolerance → Bool
-toleranceOk (Own t) = finite t && le zeroF t
-toleranceOk Session = true
-
-abbrev pub precisionOk : Float → Bool
-precisionOk p = finite p && lt zeroF p
 
 abbrev pub tableTests : Limits → Model → List Bool
 tableTests x m =

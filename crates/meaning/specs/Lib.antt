@@ -2,6 +2,7 @@ pub mod Lists
 pub mod Floats
 pub mod Model
 pub mod Refuse
+pub mod Edits
 pub mod Walks
 pub mod Inquire
 pub mod Split

@@ -57,6 +57,8 @@ reports =
     ∷ (withShell 0 (shellOf 5 (0 ∷ [])) blade gives (entry 6 2 ofShell 0 ∷ []) and 0)
     ∷ (shellIs 0 (9 ∷ []) [] [] blade gives (entry 7 1 ofShell 0 ∷ []) and 0)
     ∷ (faceIs (some 9) none (9 ∷ []) none blade gives (entry 8 2 ofFace 0 ∷ []) and 0)
+    -- a face that its front shell does not list is checked nowhere
+    ∷ (faceIs (some 9) (some 0) (9 ∷ []) none blade gives [] and 0)
     -- 9: from each shell listing it where front is none
     ∷ (surfaceIs none blade gives (entry 9 8 ofFace 0 ∷ []) and 0)
     ∷ (faceIs none (some 0) [] none (shellIs 0 (0 ∷ 0 ∷ []) [] [] blade) gives (entry 9 8 ofFace 0 ∷ entry 9 8 ofFace 0 ∷ []) and 0)
