@@ -204,6 +204,21 @@ within x = record { limits = x; model = shellIs 0 (0 ∷ []) (0 ∷ []) [] blade
 abbrev slopeAt : Float → Model → Model
 slopeAt x = withSurface 0 (plane (onAxis x) (way (real 3 /ᶠ real 5) (real 0) (real 4 /ᶠ real 5)))
 
+-- an edge from (100,0,0) to (103,4,0) on an upright plane, with the tolerance 2^-48: both ends are on the plane, and what lies between is rounded
+abbrev askewAt : Float → Cutting
+askewAt t =
+    record {
+      limits = largest;
+      model =
+          tolerantEdge (real 1 /ᶠ real (2 ^ 48))
+          (startAt (onAxis (real 100))
+          (endAt (at (real 103) (real 4) (real 0))
+          (withCurve 0 (line (onAxis (real 100)) (way (real 3 /ᶠ real 5) (real 4 /ᶠ real 5) (real 0)))
+          (withSurface 0 (plane (onAxis (real 100)) (way (real 4 /ᶠ real 5) (neg (real 3 /ᶠ real 5)) (real 0))) blade))));
+      edge = 0;
+      fraction = t;
+    }
+
 abbrev cuts : List (Row Cutting (List ℕ))
 cuts =
     -- 1
@@ -254,10 +269,13 @@ cuts =
     ∷ (halved (surfaceIs (some 9) blade) gives 11 ∷ 2 ∷ [])
     ∷ (halved (otherSurface blade) gives 11 ∷ 7 ∷ [])
     ∷ (halved (withSurface 0 (line (onAxis (real 0)) right) blade) gives 11 ∷ 7 ∷ [])
-    -- at lo and at hi: off the plane; just at the tolerance
+    -- off the plane, and just at the tolerance: at lo, at hi, at the split parameter alone
     ∷ (halved (slopeAt (real 4) blade) gives 11 ∷ 1 ∷ [])
     ∷ (halved (slopeAt (real 0) blade) gives 11 ∷ 1 ∷ [])
+    ∷ (askewAt (real 1 /ᶠ real 5) gives 11 ∷ 1 ∷ [])
     ∷ (halved (tolerantEdge quarter (withSurface 0 (plane (at (real 0) (real 0) quarter) up) blade)) gives 11 ∷ 7 ∷ [])
+    ∷ (halved (tolerantEdge (real 12 /ᶠ real 5) (slopeAt (real 0) blade)) gives 11 ∷ 7 ∷ [])
+    ∷ (askewAt (real 4 /ᶠ real 5) gives 11 ∷ 7 ∷ [])
     -- half the precision is the edge's tolerance: off by 0.0004 passes, by 0.001 doesn't
     ∷ (halved (withSurface 0 (plane (at (real 0) (real 0) (real 1 /ᶠ real 2500)) up) blade) gives 0 ∷ 0 ∷ [])
     ∷ (halved (withSurface 0 (plane (at (real 0) (real 0) (real 1 /ᶠ real 1100)) up) blade) gives 11 ∷ 1 ∷ [])
