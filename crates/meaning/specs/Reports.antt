@@ -1,5 +1,5 @@
 -- Damaged stones, computed: reports, fit to saw, well-formedness. Each of the 26 reasons is reached. Assumes nothing.
-use Prim.Native.Nat.{ℕ, _^_}
+use Prim.Native.Nat.{ℕ, _*_, _^_}
 use mathlib.Core.Path.{_≡_, refl}
 use mathlib.Core.Bool.{Bool, true, false}
 use mathlib.Core.List.{List, [], _∷_, map}
@@ -103,7 +103,7 @@ reports =
     ∷ (withSurface 0 (plane (at (real 0) (real 0) (neg (real (2 ^ 1023)))) up) (tolerantEdge (real (2 ^ 1023)) (startAt (at (real 0) (real 0) (real (2 ^ 1023))) blade))
     gives twice (entry 26 8 ofVertex 0 ∷ entry 23 10 ofVertex 1 ∷ []) and 2)
     -- a distance whose size is above the floats is off the curve
-    ∷ (startAt (at (real 0) (real (2 ^ 1023)) (real (2 ^ 1023))) blade gives twice (entry 22 9 ofVertex 0 ∷ entry 23 10 ofVertex 0 ∷ []) and 0)
+    ∷ (startAt (at (real 0) (real (3 * 2 ^ 1022)) (real (3 * 2 ^ 1022))) blade gives twice (entry 22 9 ofVertex 0 ∷ entry 23 10 ofVertex 0 ∷ []) and 0)
     -- other geometry: each query; a fin whose edge has neither end, once
     ∷ (otherCurve blade gives [] and 4)
     ∷ (withCurve 0 (plane (onAxis (real 0)) up) blade gives [] and 4)
