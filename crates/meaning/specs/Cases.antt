@@ -172,24 +172,18 @@ pub record Cutting : Type 0 where
   pub edge : ℕ
   pub fraction : Float
 
--- which test decides, counted from 1, and with which number; 0 and 0 where none refuses
-pub record Decision : Type 0 where
-  pub test : ℕ
-  pub number : ℕ
-
-unfoldable decision : ℕ → List ℕ → Decision
-decision i [] = record { test = 0; number = 0 }
-decision i (zero ∷ l) = decision (suc i) l
-decision i (suc n ∷ l) = record { test = i; number = suc n }
+-- which test decides, counted from i, and with which refusal; 0 and 0 where none refuses
+unfoldable deciding : ℕ → List ℕ → List ℕ
+deciding i [] = 0 ∷ 0 ∷ []
+deciding i (zero ∷ l) = deciding (suc i) l
+deciding i (suc n ∷ l) = i ∷ suc n ∷ []
 
 abbrev decided : Cutting → List ℕ
-decided c =
-    let d = decision 1 (splitTests (c .limits) (c .model) (c .edge) (c .fraction)) in
-    d .test ∷ d .number ∷ []
+decided c = deciding 1 (splitTests (c .limits) (c .model) (c .edge) (c .fraction))
 
 -- the model's edge 0 at a quarter, with the largest tables
-abbrev halved : Model → Cutting
-halved m = record { limits = largest; model = m; edge = 0; fraction = quarter }
+abbrev cut : Model → Cutting
+cut m = record { limits = largest; model = m; edge = 0; fraction = quarter }
 
 abbrev cutAt : Float → Cutting
 cutAt t = record { limits = largest; model = blade; edge = 0; fraction = t }
@@ -229,58 +223,58 @@ cuts =
     -- 2
     ∷ (edgeIn 1 gives 2 ∷ 2 ∷ [])
     -- 3: missing, marked, and the first of both
-    ∷ (halved (finsAre (0 ∷ 9 ∷ []) blade) gives 3 ∷ 2 ∷ [])
-    ∷ (halved (withFin 1 (record { owner = 0; edge = 0; sense = negative; pcurve = true }) blade) gives 3 ∷ 7 ∷ [])
-    ∷ (halved (finsAre (1 ∷ 9 ∷ []) (withFin 1 (record { owner = 0; edge = 0; sense = negative; pcurve = true }) blade)) gives 3 ∷ 7 ∷ [])
+    ∷ (cut (finsAre (0 ∷ 9 ∷ []) blade) gives 3 ∷ 2 ∷ [])
+    ∷ (cut (withFin 1 (record { owner = 0; edge = 0; sense = negative; pcurve = true }) blade) gives 3 ∷ 7 ∷ [])
+    ∷ (cut (finsAre (1 ∷ 9 ∷ []) (withFin 1 (record { owner = 0; edge = 0; sense = negative; pcurve = true }) blade)) gives 3 ∷ 7 ∷ [])
     -- 4: start none, end none
-    ∷ (halved (endsAre none (some 1) blade) gives 4 ∷ 7 ∷ [])
-    ∷ (halved (endsAre (some 0) none blade) gives 4 ∷ 7 ∷ [])
+    ∷ (cut (endsAre none (some 1) blade) gives 4 ∷ 7 ∷ [])
+    ∷ (cut (endsAre (some 0) none blade) gives 4 ∷ 7 ∷ [])
     -- 5: no curve, missing, not a line
-    ∷ (halved (curveIs none blade) gives 5 ∷ 1 ∷ [])
-    ∷ (halved (curveIs (some 9) blade) gives 5 ∷ 2 ∷ [])
-    ∷ (halved (otherCurve blade) gives 5 ∷ 7 ∷ [])
-    ∷ (halved (withCurve 0 (plane (onAxis (real 0)) up) blade) gives 5 ∷ 7 ∷ [])
+    ∷ (cut (curveIs none blade) gives 5 ∷ 1 ∷ [])
+    ∷ (cut (curveIs (some 9) blade) gives 5 ∷ 2 ∷ [])
+    ∷ (cut (otherCurve blade) gives 5 ∷ 7 ∷ [])
+    ∷ (cut (withCurve 0 (plane (onAxis (real 0)) up) blade) gives 5 ∷ 7 ∷ [])
     -- 6: start, end
-    ∷ (halved (endsAre (some 9) (some 1) blade) gives 6 ∷ 2 ∷ [])
-    ∷ (halved (endsAre (some 0) (some 9) blade) gives 6 ∷ 2 ∷ [])
+    ∷ (cut (endsAre (some 9) (some 1) blade) gives 6 ∷ 2 ∷ [])
+    ∷ (cut (endsAre (some 0) (some 9) blade) gives 6 ∷ 2 ∷ [])
     -- 7: a line that runs backwards, two ends in one place
-    ∷ (halved (withCurve 0 (line (onAxis (real 0)) left) blade) gives 7 ∷ 4 ∷ [])
-    ∷ (halved (endsAre (some 0) (some 0) blade) gives 7 ∷ 4 ∷ [])
+    ∷ (cut (withCurve 0 (line (onAxis (real 0)) left) blade) gives 7 ∷ 4 ∷ [])
+    ∷ (cut (endsAre (some 0) (some 0) blade) gives 7 ∷ 4 ∷ [])
     -- 8: lo not finite, hi not finite, both the same float
-    ∷ (halved (startAt (onAxis (neg (real (2 ^ 1023)))) (withCurve 0 (line (onAxis (real (2 ^ 1023))) right) blade)) gives 8 ∷ 7 ∷ [])
-    ∷ (halved (endAt (onAxis (real (2 ^ 1023))) (withCurve 0 (line (onAxis (neg (real (2 ^ 1023)))) right) blade)) gives 8 ∷ 7 ∷ [])
-    ∷ (halved (withCurve 0 (line (onAxis (neg (real (2 ^ 60)))) right) blade) gives 8 ∷ 7 ∷ [])
+    ∷ (cut (startAt (onAxis (neg (real (2 ^ 1023)))) (withCurve 0 (line (onAxis (real (2 ^ 1023))) right) blade)) gives 8 ∷ 7 ∷ [])
+    ∷ (cut (endAt (onAxis (real (2 ^ 1023))) (withCurve 0 (line (onAxis (neg (real (2 ^ 1023)))) right) blade)) gives 8 ∷ 7 ∷ [])
+    ∷ (cut (withCurve 0 (line (onAxis (neg (real (2 ^ 60)))) right) blade) gives 8 ∷ 7 ∷ [])
     -- 9: hi - lo is above the floats
-    ∷ (halved (startAt (onAxis (neg (real (2 ^ 1023)))) (endAt (onAxis (real (2 ^ 1023))) blade)) gives 9 ∷ 4 ∷ [])
+    ∷ (cut (startAt (onAxis (neg (real (2 ^ 1023)))) (endAt (onAxis (real (2 ^ 1023))) blade)) gives 9 ∷ 4 ∷ [])
     -- 10: near the start, near the end; at the whole precision, not at half of it
     ∷ (cutAt (real 1 /ᶠ real 4096) gives 10 ∷ 4 ∷ [])
     ∷ (cutAt (real 4095 /ᶠ real 4096) gives 10 ∷ 4 ∷ [])
-    ∷ (halved (withPrecision (real 1) blade) gives 10 ∷ 4 ∷ [])
+    ∷ (cut (withPrecision (real 1) blade) gives 10 ∷ 4 ∷ [])
     -- 11: repeated, behind the fin between them; points to another edge; loop missing; not exactly once in its loop
-    ∷ (halved (finsAre (0 ∷ 1 ∷ 0 ∷ []) blade) gives 11 ∷ 1 ∷ [])
-    ∷ (halved (finsAre (0 ∷ 1 ∷ 0 ∷ []) (withFin 1 (finOf 9 0 negative) blade)) gives 11 ∷ 2 ∷ [])
-    ∷ (halved (withFin 1 (finOf 9 5 negative) blade) gives 11 ∷ 1 ∷ [])
-    ∷ (halved (withFin 1 (finOf 9 0 negative) blade) gives 11 ∷ 2 ∷ [])
-    ∷ (halved (withLoop 0 (loopOf 9 (0 ∷ [])) (finsAre (1 ∷ []) blade)) gives 11 ∷ 1 ∷ [])
-    ∷ (halved (withLoop 0 (loopOf 9 (0 ∷ 1 ∷ 0 ∷ [])) blade) gives 11 ∷ 1 ∷ [])
+    ∷ (cut (finsAre (0 ∷ 1 ∷ 0 ∷ []) blade) gives 11 ∷ 1 ∷ [])
+    ∷ (cut (finsAre (0 ∷ 1 ∷ 0 ∷ []) (withFin 1 (finOf 9 0 negative) blade)) gives 11 ∷ 2 ∷ [])
+    ∷ (cut (withFin 1 (finOf 9 5 negative) blade) gives 11 ∷ 1 ∷ [])
+    ∷ (cut (withFin 1 (finOf 9 0 negative) blade) gives 11 ∷ 2 ∷ [])
+    ∷ (cut (withLoop 0 (loopOf 9 (0 ∷ [])) (finsAre (1 ∷ []) blade)) gives 11 ∷ 1 ∷ [])
+    ∷ (cut (withLoop 0 (loopOf 9 (0 ∷ 1 ∷ 0 ∷ [])) blade) gives 11 ∷ 1 ∷ [])
     -- face missing; no surface, missing, not a plane
-    ∷ (halved (withLoop 0 (loopOf 9 (0 ∷ 1 ∷ [])) blade) gives 11 ∷ 2 ∷ [])
-    ∷ (halved (surfaceIs none blade) gives 11 ∷ 1 ∷ [])
-    ∷ (halved (surfaceIs (some 9) blade) gives 11 ∷ 2 ∷ [])
-    ∷ (halved (otherSurface blade) gives 11 ∷ 7 ∷ [])
-    ∷ (halved (withSurface 0 (line (onAxis (real 0)) right) blade) gives 11 ∷ 7 ∷ [])
+    ∷ (cut (withLoop 0 (loopOf 9 (0 ∷ 1 ∷ [])) blade) gives 11 ∷ 2 ∷ [])
+    ∷ (cut (surfaceIs none blade) gives 11 ∷ 1 ∷ [])
+    ∷ (cut (surfaceIs (some 9) blade) gives 11 ∷ 2 ∷ [])
+    ∷ (cut (otherSurface blade) gives 11 ∷ 7 ∷ [])
+    ∷ (cut (withSurface 0 (line (onAxis (real 0)) right) blade) gives 11 ∷ 7 ∷ [])
     -- off the plane, and just at the tolerance: at lo, at hi, at the split parameter alone
-    ∷ (halved (slopeAt (real 4) blade) gives 11 ∷ 1 ∷ [])
-    ∷ (halved (slopeAt (real 0) blade) gives 11 ∷ 1 ∷ [])
+    ∷ (cut (slopeAt (real 4) blade) gives 11 ∷ 1 ∷ [])
+    ∷ (cut (slopeAt (real 0) blade) gives 11 ∷ 1 ∷ [])
     ∷ (askewAt (real 1 /ᶠ real 5) gives 11 ∷ 1 ∷ [])
-    ∷ (halved (tolerantEdge quarter (withSurface 0 (plane (at (real 0) (real 0) quarter) up) blade)) gives 11 ∷ 7 ∷ [])
-    ∷ (halved (tolerantEdge (real 12 /ᶠ real 5) (slopeAt (real 0) blade)) gives 11 ∷ 7 ∷ [])
+    ∷ (cut (tolerantEdge quarter (withSurface 0 (plane (at (real 0) (real 0) quarter) up) blade)) gives 11 ∷ 7 ∷ [])
+    ∷ (cut (tolerantEdge (real 12 /ᶠ real 5) (slopeAt (real 0) blade)) gives 11 ∷ 7 ∷ [])
     ∷ (askewAt (real 4 /ᶠ real 5) gives 11 ∷ 7 ∷ [])
     -- half the precision is the edge's tolerance: off by 0.0004 passes, by 0.001 doesn't
-    ∷ (halved (withSurface 0 (plane (at (real 0) (real 0) (real 1 /ᶠ real 2500)) up) blade) gives 0 ∷ 0 ∷ [])
-    ∷ (halved (withSurface 0 (plane (at (real 0) (real 0) (real 1 /ᶠ real 1100)) up) blade) gives 11 ∷ 1 ∷ [])
+    ∷ (cut (withSurface 0 (plane (at (real 0) (real 0) (real 1 /ᶠ real 2500)) up) blade) gives 0 ∷ 0 ∷ [])
+    ∷ (cut (withSurface 0 (plane (at (real 0) (real 0) (real 1 /ᶠ real 1100)) up) blade) gives 11 ∷ 1 ∷ [])
     -- 12
-    ∷ (halved (shellIs 0 (0 ∷ []) (0 ∷ 5 ∷ 0 ∷ []) [] blade) gives 12 ∷ 1 ∷ [])
+    ∷ (cut (shellIs 0 (0 ∷ []) (0 ∷ 5 ∷ 0 ∷ []) [] blade) gives 12 ∷ 1 ∷ [])
     -- 13: all fit; then a table of fins, edges, vertices that is full, a list of wire edges, of a loop's fins (both counted together), of an edge's
     ∷ (within (room 4 2 3 2 4 2) gives 0 ∷ 0 ∷ [])
     ∷ (within (room 3 2 3 2 4 2) gives 13 ∷ 8 ∷ [])
@@ -291,16 +285,16 @@ cuts =
     ∷ (within (room 4 2 3 2 4 1) gives 13 ∷ 8 ∷ [])
     -- of two that refuse, the first decides
     ∷ (record { limits = largest; model = blade; edge = 9; fraction = real 0 } gives 1 ∷ 1 ∷ [])
-    ∷ (halved (edgeIs none (some 1) none (9 ∷ []) blade) gives 3 ∷ 2 ∷ [])
-    ∷ (halved (edgeIs none (some 9) none (0 ∷ []) blade) gives 4 ∷ 7 ∷ [])
-    ∷ (halved (edgeIs (some 9) (some 1) none (0 ∷ []) blade) gives 5 ∷ 1 ∷ [])
-    ∷ (halved (withPrecision (real 1) (surfaceIs none blade)) gives 10 ∷ 4 ∷ [])
-    ∷ (halved (surfaceIs none (shellIs 0 (0 ∷ []) (0 ∷ 0 ∷ []) [] blade)) gives 11 ∷ 1 ∷ [])
+    ∷ (cut (edgeIs none (some 1) none (9 ∷ []) blade) gives 3 ∷ 2 ∷ [])
+    ∷ (cut (edgeIs none (some 9) none (0 ∷ []) blade) gives 4 ∷ 7 ∷ [])
+    ∷ (cut (edgeIs (some 9) (some 1) none (0 ∷ []) blade) gives 5 ∷ 1 ∷ [])
+    ∷ (cut (withPrecision (real 1) (surfaceIs none blade)) gives 10 ∷ 4 ∷ [])
+    ∷ (cut (surfaceIs none (shellIs 0 (0 ∷ []) (0 ∷ 0 ∷ []) [] blade)) gives 11 ∷ 1 ∷ [])
     ∷ (record { limits = room 2 1 2 2 2 2; model = shellIs 0 (0 ∷ []) (0 ∷ 0 ∷ []) [] blade; edge = 0; fraction = quarter } gives 12 ∷ 1 ∷ [])
     ∷ []
 
 cuts-hold : map (λ r. decided (r .input)) cuts ≡ map (λ r. r .result) cuts
-unfolding computing decision
+unfolding computing deciding
 cuts-hold = refl
 
 -- `edge_parameter_bounds` passes over tests 1, 3 and 9 to 13
