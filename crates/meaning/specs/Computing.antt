@@ -1,0 +1,28 @@
+-- For evaluation: a line `unfolding computing` opens every definition of this crate and of those below, and the float operations of lib.Ieee.
+use Prim.Native.Nat.{ℕ}
+use lib.Ieee.{toBits, ofBits, add, sub, mul, div, neg, round, ofInt, isNan, lt, le, eq}
+use Rattle.numbers.specs.Next.{nextUp, nextDown}
+use Rattle.numbers.specs.Ops.{pointI, addI, subI, mulI, sqrI, signI}
+use Rattle.vectors.specs.Space.{finitePoint, minus, along, scaledV, dotV, crossV, differenceI, pointI3, vectorI, dotI}
+use Rattle.geometry.specs.Geometry.{linePoint, nearest, sizeF, planeDistance}
+use Rattle.store.specs.Queries.{theLine, lineRefusal, thePlane, planeRefusal}
+use Rattle.signs.specs.Signs.{increasingS, spanS, apartS, offPlaneS, offCurveS}
+use Rattle.meaning.specs.Lists.{run, allBelow, all, every, member, count, countIf, place, joined, meet, meets}
+use Rattle.meaning.specs.Model.{extended, changed, carrierAt}
+use Rattle.meaning.specs.Refuse.{firstRefusal, firstOf}
+use Rattle.meaning.specs.Walks.{faceWalk, facesRefusal, edgeWalk, edgesRefusal, vertexWalk, verticesRefusal}
+use Rattle.meaning.specs.Inquire.{flatFace, straightEdge, requirePolyhedral, grown, boxOf, boxRefusal, solidSides, sideRefusal, sidesRefusal, volumeRefusal, fan, polygonVolume, sideVolume, sumVolumes}
+use Rattle.meaning.specs.Split.{lo, hi, parameter, splitPoint, test7, test8, test9, test10, onPlane, test11-fin, test11-fins, test12, test13, boundsRefusal, splitRefusal, afterSplit, modelAfter, afterAll}
+use Rattle.meaning.specs.Faults.{faultOn, geometryError, curveTest, pointOnSurface, endTests, sampleAt, sampleTest, sampleTests, carried, finGeometry, finFindings, opens, loopFindings, faceFindings, shellFindings, regionFindings, manifold, manifoldEdge, manifoldEdges, findings, faultsOf, skippedOf, reportOf, checkRefusal, sawable}
+use Rattle.meaning.specs.Formed.{tablesOk, idsOk, listedOk, closed, loopOk, wellFormed}
+
+unfoldable pub computing : ℕ
+unfolding toBits ofBits add sub mul div neg round ofInt isNan lt le eq nextUp nextDown pointI addI subI mulI sqrI signI finitePoint minus along scaledV dotV
+    crossV differenceI pointI3 vectorI dotI linePoint nearest sizeF planeDistance theLine lineRefusal thePlane planeRefusal increasingS spanS apartS offPlaneS
+    offCurveS run allBelow all every member count countIf place joined meet meets extended changed carrierAt firstRefusal firstOf faceWalk
+    facesRefusal edgeWalk edgesRefusal vertexWalk verticesRefusal flatFace straightEdge requirePolyhedral grown boxOf boxRefusal solidSides
+    sideRefusal sidesRefusal volumeRefusal fan polygonVolume sideVolume sumVolumes lo hi parameter splitPoint test7 test8 test9 test10 onPlane
+    test11-fin test11-fins test12 test13 boundsRefusal splitRefusal afterSplit modelAfter afterAll faultOn geometryError curveTest pointOnSurface
+    endTests sampleAt sampleTest sampleTests carried finGeometry finFindings opens loopFindings faceFindings shellFindings regionFindings manifold
+    manifoldEdge manifoldEdges findings faultsOf skippedOf reportOf checkRefusal sawable tablesOk idsOk listedOk closed loopOk wellFormed
+computing = 0

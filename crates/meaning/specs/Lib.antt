@@ -1,0 +1,16 @@
+pub mod Lists
+pub mod Floats
+pub mod Model
+pub mod Refuse
+pub mod Edits
+pub mod Walks
+pub mod Inquire
+pub mod Split
+pub mod Faults
+pub mod Formed
+pub mod Computing
+pub mod Stone
+pub mod Blade
+pub mod Trial
+pub mod Cases
+pub mod Reports
