@@ -1,0 +1,14 @@
+-- `model::layout::real_at` meets its contract. Assumes nothing.
+use Rattle.model.specs.Laws.{reals-strides}
+use borrow.Author.Needs.{needs}
+use Rattle.model.proofs.layout.real_at.Statement.{statement}
+use Rattle.model.proofs.layout.real_at.Tie as tie
+
+record-at-requires : tie.Need-record-at-requires
+record-at-requires c κs = (c .before .pre .0, (reals-strides, search needs))
+
+returns : tie.Need-returns
+returns c = search needs
+
+pub real-at-spec : {M : Type 1} → statement M
+real-at-spec = tie.close (tie.spec record-at-requires returns)

@@ -1,0 +1,89 @@
+-- The test of refusal 9: 01, "tables unreadable (added): a used count above capacity, a list above its limit, an unknown tag, a tolerance or
+-- precision that an insert would refuse"; and capacities above the largest tables, or lent memory that is too short for them. Definitions only.
+use Prim.Native.Nat.{ℕ}
+use mathlib.Core.Bool.{Bool, true, _&&_, _||_}
+use mathlib.Core.List.{List, [], _∷_}
+use lib.Dec.{eqb, leb}
+use lib.ListN.{length, getD}
+use lib.Ieee.{Float}
+use Rattle.geometry.specs.declared.tolerance.Tolerance.the-variants.{Own}
+use Rattle.meaning.specs.Lists.{allBelow, every}
+use Rattle.meaning.specs.Edits.{toleranceOk, precisionOk}
+use Rattle.model.specs.Layout.{largestTables, word, real, wordsNeeded, realsNeeded, wordsOf, realsOf}
+
+-- ---- a record's tags are known, and its lists within their limits: 01, "Lists: body 16 regions; region 16 shells; shell 512 faces, 256 wire edges,
+-- 64 acorn vertices; face 16 loops; loop 1,024 fins; edge 8 fins"
+
+abbrev pub bodyOk : List ℕ → Bool
+bodyOk w = leb (word w 0) 4 && leb (word w 1) 16
+
+abbrev pub regionOk : List ℕ → Bool
+regionOk w = leb (word w 1) 1 && leb (word w 2) 16
+
+abbrev pub shellOk : List ℕ → Bool
+shellOk w = leb (word w 1) 512 && leb (word w 514) 256 && leb (word w 771) 64
+
+abbrev pub faceOk : List ℕ → Bool
+faceOk w = leb (word w 0) 1 && leb (word w 2) 1 && leb (word w 4) 1 && leb (word w 6) 1 && leb (word w 7) 16
+
+abbrev pub loopOk : List ℕ → Bool
+loopOk w = leb (word w 1) 1024
+
+abbrev pub finOk : List ℕ → Bool
+finOk w = leb (word w 2) 1 && leb (word w 3) 1
+
+-- an own tolerance is one that an insert would take
+abbrev pub ownOk : ℕ → Float → Bool
+ownOk tag t = eqb tag 0 || toleranceOk (Own t)
+
+abbrev pub edgeOk : List ℕ → List Float → Bool
+edgeOk w x = leb (word w 0) 1 && leb (word w 2) 1 && leb (word w 4) 1 && leb (word w 6) 1 && leb (word w 7) 8 && ownOk (word w 6) (real x 0)
+
+abbrev pub vertexOk : List ℕ → List Float → Bool
+vertexOk w x = leb (word w 0) 1 && ownOk (word w 0) (real x 3)
+
+abbrev pub carrierOk : List ℕ → Bool
+carrierOk w = leb (word w 0) 2
+
+-- by table
+abbrev pub recordTests : List (List ℕ → List Float → Bool)
+recordTests =
+    (λ w x. bodyOk w)
+    ∷ (λ w x. regionOk w)
+    ∷ (λ w x. shellOk w)
+    ∷ (λ w x. faceOk w)
+    ∷ (λ w x. loopOk w)
+    ∷ (λ w x. finOk w)
+    ∷ edgeOk
+    ∷ vertexOk
+    ∷ (λ w x. carrierOk w)
+    ∷ (λ w x. carrierOk w)
+    ∷ []
+
+unfoldable pub recordOk : ℕ → List ℕ → List Float → Bool
+recordOk k w x = getD recordTests k (λ _ _. true) w x
+
+-- ---- the whole
+
+-- no capacity is above 01's largest table
+unfoldable pub roomOk : List ℕ → Bool
+roomOk room = allBelow (λ k. leb (word room k) (word largestTables k)) 10
+
+-- no used count is above its capacity
+unfoldable pub countsOk : List ℕ → List ℕ → Bool
+countsOk room w = allBelow (λ k. leb (word w k) (word room k)) 10
+
+-- every used record
+unfoldable pub tableOk : List ℕ → List ℕ → List Float → ℕ → Bool
+tableOk room w x k = allBelow (λ i. recordOk k (wordsOf room w k i) (realsOf room x k i)) (word w k)
+
+unfoldable pub tablesOk : List ℕ → List ℕ → List Float → Bool
+tablesOk room w x = allBelow (tableOk room w x) 10
+
+-- the capacities, the lent memory and the used counts agree
+unfoldable pub sizedOk : List ℕ → List ℕ → List Float → Bool
+sizedOk room w x =
+    every (roomOk room ∷ leb (wordsNeeded room) (length w) ∷ leb (realsNeeded room) (length x) ∷ countsOk room w ∷ [])
+
+unfoldable pub readable : List ℕ → List ℕ → List Float → Bool
+readable room w x = sizedOk room w x && precisionOk (real x 0) && tablesOk room w x
