@@ -1,0 +1,9 @@
+pub mod Tests
+pub mod Lists
+pub mod Tables
+pub mod Loops
+pub mod Findings
+pub mod Decided
+pub mod Clean
+pub mod Kept
+pub mod Statements

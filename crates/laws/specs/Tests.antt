@@ -1,0 +1,85 @@
+-- Laws of tests: conjunctions, optional ids, refusals and rows of tests. Assumes nothing.
+use Prim.Native.Nat.{ℕ, zero, suc, _≤_, _<_}
+use native.Mathlib.Omega.{arith}
+use native.Mathlib.Decide.{decLt}
+use mathlib.Core.Path.{_≡_, refl, sym, ap, subst}
+use mathlib.Core.Bool.{Bool, true, false, _&&_, false≢true}
+use mathlib.Core.List.{List, [], _∷_, _++_}
+use mathlib.Core.Option.{Option, none, some}
+use lib.ListN.{getD}
+use borrow.Author.Tests.{ltb-true, eqb-true, lt-ltb, eq-eqb}
+use Rattle.geometry.specs.Refuse.{_unless_, _then_}
+use Rattle.meaning.specs.Lists.{allBelow, every, same}
+use Rattle.meaning.specs.Refuse.{firstRefusal, firstOf}
+use Rattle.meaning.specs.Formed.{belowMaybe}
+
+-- ---- conjunctions
+
+pub and-both : (a b : Bool) → (a && b) ≡ true → (a ≡ true) × (b ≡ true)
+and-both true b e = (refl, e)
+and-both false b e = absurd (false≢true e)
+
+-- each test of a list that passes
+pub every-at : (l : List Bool) → every l ≡ true → (k : ℕ) → getD l k true ≡ true
+unfolding every
+every-at [] h k = refl
+every-at (b ∷ l) h zero = and-both b (every l) h .0
+every-at (b ∷ l) h (suc k) = every-at l (and-both b (every l) h .1) k
+
+pub allBelow-at : (p : ℕ → Bool) (n k : ℕ) → allBelow p n ≡ true → k < n → p k ≡ true
+unfolding allBelow
+allBelow-at p zero k e h = absurd (omega arith)
+allBelow-at p (suc n) k e h =
+    let both : (allBelow p n ≡ true) × (p n ≡ true) = and-both (allBelow p n) (p n) e in
+    elim (decLt k n) [
+      | yes l ↦ allBelow-at p n k (both .0) l
+      | no g ↦ let q : n ≡ k = omega arith in subst (λ j. p j ≡ true) q (both .1)
+    ]
+
+-- ---- optional ids
+
+pub same-refl : (a : Option ℕ) → same a a ≡ true
+same-refl none = refl
+same-refl (some x) = eq-eqb x x refl
+
+pub same-true : (a b : Option ℕ) → same a b ≡ true → a ≡ b
+same-true none none h = refl
+same-true none (some y) h = absurd (false≢true h)
+same-true (some x) none h = absurd (false≢true h)
+same-true (some x) (some y) h = ap some (eqb-true x y h)
+
+pub maybe-weaken : (n k : ℕ) (o : Option ℕ) → n ≤ k → belowMaybe n o ≡ true → belowMaybe k o ≡ true
+maybe-weaken n k none h a = refl
+maybe-weaken n k (some i) h a = let less : i < n = ltb-true i n a in lt-ltb i k (omega arith)
+
+-- ---- refusals: `a then b`, `n unless t`
+
+pub then-zero : (a b : ℕ) → (a then b) ≡ 0 → (a ≡ 0) × (b ≡ 0)
+then-zero zero b h = (refl, h)
+then-zero (suc a) b h = absurd (omega arith)
+
+pub then-none : (a : ℕ) → (a then 0) ≡ (0 then a)
+then-none zero = refl
+then-none (suc a) = refl
+
+pub then-assoc : (a b c : ℕ) → ((a then b) then c) ≡ (a then (b then c))
+then-assoc zero b c = refl
+then-assoc (suc a) b c = refl
+
+pub unless-zero : (n : ℕ) (b : Bool) → (suc n unless b) ≡ 0 → b ≡ true
+unless-zero n true h = refl
+unless-zero n false h = absurd (omega arith)
+
+-- ---- rows of tests
+
+-- where a list of tests has no refusal, none of them has
+pub none-refused : (l : List ℕ) → firstRefusal l ≡ 0 → (k : ℕ) → getD l k 0 ≡ 0
+unfolding firstRefusal
+none-refused [] h k = refl
+none-refused (n ∷ l) h zero = then-zero n (firstRefusal l) h .0
+none-refused (n ∷ l) h (suc k) = none-refused l (then-zero n (firstRefusal l) h .1) k
+
+pub firstOf-snoc : (f : ℕ → ℕ) (l : List ℕ) (y : ℕ) → firstOf f (l ++ (y ∷ [])) ≡ (firstOf f l then f y)
+unfolding firstOf
+firstOf-snoc f [] y = then-none (f y)
+firstOf-snoc f (z ∷ l) y = rw (firstOf-snoc f l y) (sym (then-assoc (f z) (firstOf f l) (f y)))
