@@ -6,4 +6,6 @@ pub mod Findings
 pub mod Decided
 pub mod Clean
 pub mod Kept
+pub mod Rows
+pub mod Refusals
 pub mod Statements

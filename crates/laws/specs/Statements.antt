@@ -1,10 +1,35 @@
 -- What splits keep (demand 3), for every model, every limit record and every list of split requests, accepted or refused. Assumes nothing.
-use mathlib.Core.List.{List}
-use Rattle.meaning.specs.Model.{Model, Limits}
-use Rattle.meaning.specs.Split.{Cut, afterAll}
+use Prim.Native.Nat.{ℕ, suc}
+use mathlib.Core.Logic.{_↔_}
+use mathlib.Core.Path.{_≡_}
+use mathlib.Core.List.{List, []}
+use lib.ListN.{getD}
+use lib.Ieee.{Float}
+use Rattle.meaning.specs.Model.{Model, vertex, Limits}
+use Rattle.meaning.specs.Refuse.{refused, given}
+use Rattle.meaning.specs.Split.{splitRefusal, splitLineEdge, modelAfter, Cut, afterAll}
 use Rattle.meaning.specs.Formed.{WellFormed}
 use Rattle.laws.specs.Kept.{splits-keep}
+use Rattle.laws.specs.Rows.{splitRows, Passes, RefusedAt}
+use Rattle.laws.specs.Refusals.{refused-where, accepted-where, accepted-only, one-row, answered-given, row-of-answer, refused-keeps}
 
 -- 1. "After any sequence of splits, accepted or refused, it is still well formed"
 pub stays-well-formed : (x : Limits) (m : Model) (l : List Cut) → WellFormed x m → WellFormed x (afterAll x m l)
 stays-well-formed = splits-keep
+
+-- 5. "Each refusal comes exactly where its row in 01 says": the number is n exactly if, at some row, the rows before it pass and its condition for n
+-- holds (`RefusedAt`, over 01's rows: Rows.antt); that row is one; and a split is accepted exactly if all rows pass
+pub refused-by-row : (x : Limits) (m : Model) (e : ℕ) (t : Float) (n : ℕ)
+    → (splitLineEdge x m e t ≡ refused (suc n)) ↔ ((k : ℕ) × RefusedAt (splitRows x m e t) k (suc n))
+refused-by-row x m e t n = (row-of-answer x m e t (suc n), λ r. rw (refused-where x m e t (r .0) n (r .1)))
+
+pub refused-at-one-row : (x : Limits) (m : Model) (e : ℕ) (t : Float) (j k n i : ℕ) → RefusedAt (splitRows x m e t) j n → RefusedAt (splitRows x m e t) k i → j ≡ k
+refused-at-one-row x m e t = one-row (splitRows x m e t)
+
+pub accepted-by-rows : (x : Limits) (m : Model) (e : ℕ) (t : Float)
+    → (splitLineEdge x m e t ≡ given (record { originalEdge = e; newEdge = m .edges .used; vertex = m .vertices .used })) ↔ ((k : ℕ) → Passes (getD (splitRows x m e t) k []))
+accepted-by-rows x m e t = (λ h. accepted-only x m e t (answered-given (splitRefusal x m e t) _ _ h), λ p. rw (accepted-where x m e t p))
+
+-- 6. a refused split leaves the model as it was
+pub refused-changes-nothing : (x : Limits) (m : Model) (e : ℕ) (t : Float) (n : ℕ) → splitLineEdge x m e t ≡ refused n → modelAfter x m e t ≡ m
+refused-changes-nothing = refused-keeps
