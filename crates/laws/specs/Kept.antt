@@ -645,7 +645,7 @@ module _ (x : Limits) (m : Model) (w : WellFormed x m) (e : ℕ) (t : Float) whe
 -- ---- one split, and any sequence of them
 
 -- a split that is not refused has an edge, and room
-accepted : (x : Limits) (m : Model) (e : ℕ) (t : Float) → splitRefusal x m e t ≡ 0 → (e < m .edges .used) × (test13 x m e ≡ 0)
+pub accepted : (x : Limits) (m : Model) (e : ℕ) (t : Float) → splitRefusal x m e t ≡ 0 → (e < m .edges .used) × (test13 x m e ≡ 0)
 unfolding splitRefusal
 accepted x m e t h =
     (ltb-true e (m .edges .used) (unless-zero 1 (ltb e (m .edges .used)) (none-refused (splitTests x m e t) h 1)), none-refused (splitTests x m e t) h 12)

@@ -1,3 +1,4 @@
+pub mod Terms
 pub mod Tests
 pub mod Lists
 pub mod Tables
@@ -8,4 +9,5 @@ pub mod Clean
 pub mod Kept
 pub mod Rows
 pub mod Refusals
+pub mod Struck
 pub mod Statements

@@ -10,7 +10,7 @@ use lib.Dec.{eqb, ltb, leb}
 use lib.ListN.{length, getD, length-append}
 use borrow.Author.Tests.{ltb-true, leb-true, eqb-true, eqb-false, lt-ltb, ne-eqb, eq-eqb}
 use Rattle.meaning.specs.Lists.{run, all, member, count, countIf, place, joined}
-use Rattle.laws.specs.Tests.{and-both}
+use Rattle.laws.specs.Tests.{and-both, or-none, or-first}
 
 -- ---- count
 
@@ -126,6 +126,26 @@ place-below (y ∷ l) f h = go (eqb f y) h (place-below l f)
     go : (b : Bool) → (b || member f l) ≡ true → (member f l ≡ true → place f l < length l) → cond b 0 (suc (place f l)) < suc (length l)
     go true q r = omega arith
     go false q r = let z : place f l < length l = r q in omega arith
+
+pub member-append : (c : ℕ) (k l : List ℕ) → member c (k ++ l) ≡ (member c k || member c l)
+unfolding member
+member-append c [] l = refl
+member-append c (y ∷ k) l = rw (member-append c k l) (go (eqb c y))
+  where
+    go : (b : Bool) → (b || (member c k || member c l)) ≡ ((b || member c k) || member c l)
+    go true = refl
+    go false = refl
+
+-- of two lists, neither has it
+pub member-front-none : (c : ℕ) (k l : List ℕ) → member c (k ++ l) ≡ false → member c k ≡ false
+member-front-none c k l h = or-none (member c k) (member c l) (sym (member-append c k l) ∙ h) .0
+
+pub member-back-none : (c : ℕ) (k l : List ℕ) → member c (k ++ l) ≡ false → member c l ≡ false
+member-back-none c k l h = or-none (member c k) (member c l) (sym (member-append c k l) ∙ h) .1
+
+-- one has it, and not the second
+pub member-front : (c : ℕ) (k l : List ℕ) → member c (k ++ l) ≡ true → member c l ≡ false → member c k ≡ true
+member-front c k l h q = or-first (member c k) (member c l) (sym (member-append c k l) ∙ h) q
 
 -- ---- all
 

@@ -9,13 +9,20 @@ use Rattle.meaning.specs.Model.{Model, vertex, Limits}
 use Rattle.meaning.specs.Refuse.{refused, given}
 use Rattle.meaning.specs.Split.{splitRefusal, splitLineEdge, modelAfter, Cut, afterAll}
 use Rattle.meaning.specs.Formed.{WellFormed}
+use Rattle.laws.specs.Terms.{splitEdges, Restored}
 use Rattle.laws.specs.Kept.{splits-keep}
 use Rattle.laws.specs.Rows.{splitRows, Passes, RefusedAt}
 use Rattle.laws.specs.Refusals.{refused-where, accepted-where, accepted-only, one-row, answered-given, row-of-answer, refused-keeps}
+use Rattle.laws.specs.Struck.{splits-restore}
 
 -- 1. "After any sequence of splits, accepted or refused, it is still well formed"
 pub stays-well-formed : (x : Limits) (m : Model) (l : List Cut) → WellFormed x m → WellFormed x (afterAll x m l)
 stays-well-formed = splits-keep
+
+-- 4. "Striking out what was added gives back every stored list in its starting order", and every other field of every old record is as it was but for
+-- the end of a split edge (`Restored`: Terms.antt)
+pub gives-back : (x : Limits) (m : Model) (l : List Cut) → WellFormed x m → Restored m (afterAll x m l) (splitEdges x m l)
+gives-back = splits-restore
 
 -- 5. "Each refusal comes exactly where its row in 01 says": the number is n exactly if, at some row, the rows before it pass and its condition for n
 -- holds (`RefusedAt`, over 01's rows: Rows.antt); that row is one; and a split is accepted exactly if all rows pass
