@@ -10,4 +10,5 @@ pub mod Kept
 pub mod Rows
 pub mod Refusals
 pub mod Struck
+pub mod Doubled
 pub mod Statements

@@ -9,8 +9,8 @@ use mathlib.Core.List.{List, [], _∷_, _++_, append-assoc, append-nil}
 use lib.Dec.{eqb, ltb, leb}
 use lib.ListN.{length, getD, length-append}
 use borrow.Author.Tests.{ltb-true, leb-true, eqb-true, eqb-false, lt-ltb, ne-eqb, eq-eqb}
-use Rattle.meaning.specs.Lists.{run, all, member, count, countIf, place, joined}
-use Rattle.laws.specs.Tests.{and-both, or-none, or-first}
+use Rattle.meaning.specs.Lists.{run, all, member, count, countIf, place, joined, meet, meets, firsts, same}
+use Rattle.laws.specs.Tests.{and-both, or-false, or-none, or-first}
 
 -- ---- count
 
@@ -93,6 +93,24 @@ member-uncounted c (y ∷ l) h = go (eqb c y) h (member-uncounted c l)
     go true q r = absurd (omega arith)
     go false q r = r q
 
+pub count-present : (c : ℕ) (l : List ℕ) → member c l ≡ true → 1 ≤ count c l
+unfolding count member
+count-present c [] h = absurd (false≢true h)
+count-present c (y ∷ l) h = go (eqb c y) h (count-present c l)
+  where
+    go : (b : Bool) → (b || member c l) ≡ true → (member c l ≡ true → 1 ≤ count c l) → 1 ≤ cond b (suc (count c l)) (count c l)
+    go true q r = omega arith
+    go false q r = r q
+
+pub count-absent : (c : ℕ) (l : List ℕ) → member c l ≡ false → count c l ≡ 0
+unfolding count member
+count-absent c [] h = refl
+count-absent c (y ∷ l) h = go (eqb c y) h (count-absent c l)
+  where
+    go : (b : Bool) → (b || member c l) ≡ false → (member c l ≡ false → count c l ≡ 0) → cond b (suc (count c l)) (count c l) ≡ 0
+    go true q r = absurd (false≢true (sym q))
+    go false q r = r q
+
 pub member-nth : (l : List ℕ) (k : ℕ) → k < length l → member (getD l k 0) l ≡ true
 unfolding member
 member-nth [] k h = absurd (omega arith)
@@ -135,6 +153,10 @@ member-append c (y ∷ k) l = rw (member-append c k l) (go (eqb c y))
     go : (b : Bool) → (b || (member c k || member c l)) ≡ ((b || member c k) || member c l)
     go true = refl
     go false = refl
+
+pub member-one : (x y : ℕ) → member x (y ∷ []) ≡ eqb x y
+unfolding member
+member-one x y = or-false (eqb x y)
 
 -- of two lists, neither has it
 pub member-front-none : (c : ℕ) (k l : List ℕ) → member c (k ++ l) ≡ false → member c k ≡ false
@@ -327,3 +349,76 @@ module _ {A : Type 0} where
   joined-same f g p (y ∷ l) h a =
       let both : (p y ≡ true) × (all p l ≡ true) = and-both (p y) (all p l) a in
       rw (h y (both .0), joined-same f g p l h (both .1))
+
+-- ---- meet, meets: each entry at its first meeting
+
+pub meets-append : (s k l : List ℕ) → meets s (k ++ l) ≡ meets (meets s k) l
+unfolding meets
+meets-append s [] l = refl
+meets-append s (y ∷ k) l = meets-append (meet s y) k l
+
+pub meets-snoc : (s l : List ℕ) (y : ℕ) → meets s (l ++ (y ∷ [])) ≡ meet (meets s l) y
+unfolding meets
+meets-snoc s [] y = refl
+meets-snoc s (z ∷ l) y = meets-snoc (meet s z) l y
+
+-- an entry that was met, and one that was not
+pub meet-old : (s : List ℕ) (y : ℕ) → member y s ≡ true → meet s y ≡ s
+unfolding meet
+meet-old s y h = rw h
+
+pub meet-new : (s : List ℕ) (y : ℕ) → member y s ≡ false → meet s y ≡ s ++ (y ∷ [])
+unfolding meet
+meet-new s y h = rw h
+
+pub member-meet : (x : ℕ) (s : List ℕ) (y : ℕ) → member x (meet s y) ≡ (member x s || eqb x y)
+member-meet x s y = by (member y s) refl
+  where
+    found : (b c : Bool) → (c ≡ true → b ≡ true) → b ≡ (b || c)
+    found true c h = refl
+    found false true h = absurd (false≢true (h refl))
+    found false false h = refl
+
+    one : (b : Bool) → (b || (eqb x y || false)) ≡ (b || eqb x y)
+    one true = refl
+    one false = or-false (eqb x y)
+
+    by : (b : Bool) → member y s ≡ b → member x (meet s y) ≡ (member x s || eqb x y)
+    by true q = rw (meet-old s y q) (found (member x s) (eqb x y) (λ r. rw (eqb-true x y r) q))
+    by false q = rw (meet-new s y q, member-append x s (y ∷ [])) (unfold member in one (member x s))
+
+pub member-meets : (x : ℕ) (s l : List ℕ) → member x (meets s l) ≡ (member x s || member x l)
+unfolding meets member
+member-meets x s [] = sym (or-false (member x s))
+member-meets x s (y ∷ l) = rw (member-meets x (meet s y) l, member-meet x s y) (go (member x s))
+  where
+    go : (b : Bool) → ((b || eqb x y) || member x l) ≡ (b || (eqb x y || member x l))
+    go true = refl
+    go false = refl
+
+-- a list of first meetings repeats nothing
+pub count-meet : (s : List ℕ) (y : ℕ) → ((c : ℕ) → count c s ≤ 1) → (c : ℕ) → count c (meet s y) ≤ 1
+count-meet s y once c = by (member y s) refl
+  where
+    step : (b : Bool) → eqb c y ≡ b → count y s ≡ 0 → count c s + cond b 1 0 ≤ 1
+    step true q h = let same : c ≡ y = eqb-true c y q in rw same (omega arith)
+    step false q h = omega (arith, once c)
+
+    by : (b : Bool) → member y s ≡ b → count c (meet s y) ≤ 1
+    by true q = rw (meet-old s y q) (once c)
+    by false q = rw (meet-new s y q, count-snoc c s y) (step (eqb c y) refl (count-absent y s q))
+
+pub count-meets : (s l : List ℕ) → ((c : ℕ) → count c s ≤ 1) → (c : ℕ) → count c (meets s l) ≤ 1
+unfolding meets
+count-meets s [] once c = once c
+count-meets s (y ∷ l) once c = count-meets (meet s y) l (count-meet s y once) c
+
+pub count-firsts : (l : List ℕ) (c : ℕ) → count c (firsts l) ≤ 1
+count-firsts l = count-meets [] l (λ c. unfold count in omega arith)
+
+pub member-firsts : (x : ℕ) (l : List ℕ) → member x (firsts l) ≡ member x l
+member-firsts x l = rw (member-meets x [] l) (unfold member in refl)
+
+-- what holds of all entries holds of all first meetings
+pub all-firsts : (p : ℕ → Bool) (l : List ℕ) → all p l ≡ true → all p (firsts l) ≡ true
+all-firsts p l a = all-counted p (firsts l) (λ c h. all-at p l c a (count-present c l (sym (member-firsts c l) ∙ member-counted c (firsts l) h)))
