@@ -3,7 +3,7 @@ use Prim.Native.Nat.{ℕ, suc, _+_}
 use native.Mathlib.Omega.{arith}
 use mathlib.Core.Path.{_≡_, refl, sym, ap, _∙_}
 use mathlib.Core.Bool.{Bool, true, false, cond, not, _||_}
-use mathlib.Core.List.{List, [], _∷_, _++_, append-nil}
+use mathlib.Core.List.{List, [], _∷_, _++_, map, append-nil, map-append}
 use lib.Dec.{eqb}
 use lib.ListN.{length}
 use borrow.Author.Tests.{eqb-true, eqb-false, ne-eqb, eq-eqb}
@@ -34,6 +34,14 @@ module _ (e n : ℕ) where
   doubled-joined f g p (y ∷ l) h a =
       let both : (p y ≡ true) × (all p l ≡ true) = and-both (p y) (all p l) a in
       doubled-append (h y (both .0)) (doubled-joined f g p l h (both .1))
+
+  pub doubled-mapped : (h i : ℕ → ℕ) (f g : ℕ → List ℕ) (p : ℕ → Bool) (l : List ℕ) → ((y : ℕ) → p y ≡ true → Doubled e n (map h (f y)) (map i (g y))) → all p l ≡ true
+      → Doubled e n (map h (joined f l)) (map i (joined g l))
+  unfolding joined all
+  doubled-mapped h i f g p [] d a = ended
+  doubled-mapped h i f g p (y ∷ l) d a =
+      let both : (p y ≡ true) × (all p l ≡ true) = and-both (p y) (all p l) a in
+      rw (map-append h (f y) (joined f l), map-append i (g y) (joined g l)) (doubled-append (d y (both .0)) (doubled-mapped h i f g p l d (both .1)))
 
 -- ---- a list without an id
 

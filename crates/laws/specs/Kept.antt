@@ -74,7 +74,7 @@ module _ (x : Limits) (m : Model) (w : WellFormed x m) (e : ℕ) (t : Float) whe
   unfolding afterSplit extended changed
   edge-fresh p h = rw (le-ltb p (m .edges .used) h)
 
-  loop-after : (l : ℕ) → loop (afterSplit m e t) l .fins ≡ joined (withNew m e l) (loop m l .fins)
+  pub loop-after : (l : ℕ) → loop (afterSplit m e t) l .fins ≡ joined (withNew m e l) (loop m l .fins)
   unfolding afterSplit changed
   loop-after l = refl
 
@@ -224,19 +224,19 @@ module _ (x : Limits) (m : Model) (w : WellFormed x m) (e : ℕ) (t : Float) whe
 
     -- ---- every fin still ends where the next starts
 
-    edge-first : edge (afterSplit m e t) e ≡ firstHalf m (edge m e)
+    pub edge-first : edge (afterSplit m e t) e ≡ firstHalf m (edge m e)
     unfolding afterSplit extended changed
     edge-first = rw (lt-ltb e (m .edges .used) he, eq-eqb e e refl)
 
-    edge-other : (p : ℕ) → p < m .edges .used → (p ≡ e → ⊥) → edge (afterSplit m e t) p ≡ edge m p
+    pub edge-other : (p : ℕ) → p < m .edges .used → (p ≡ e → ⊥) → edge (afterSplit m e t) p ≡ edge m p
     unfolding afterSplit extended changed
     edge-other p h d = rw (lt-ltb p (m .edges .used) h, ne-eqb p e d)
 
     -- the edge's fins are those that name it
-    in-fins : (f : ℕ) → f < m .fins .used → fin m f .edge ≡ e → member f (edge m e .fins) ≡ true
+    pub in-fins : (f : ℕ) → f < m .fins .used → fin m f .edge ≡ e → member f (edge m e .fins) ≡ true
     in-fins f h q = member-counted f (edge m e .fins) (rw (w .edges .once e f he h, eq-eqb (fin m f .edge) e q) (omega arith))
 
-    not-in-fins : (f : ℕ) → f < m .fins .used → (fin m f .edge ≡ e → ⊥) → member f (edge m e .fins) ≡ false
+    pub not-in-fins : (f : ℕ) → f < m .fins .used → (fin m f .edge ≡ e → ⊥) → member f (edge m e .fins) ≡ false
     not-in-fins f h d = member-uncounted f (edge m e .fins) (rw (w .edges .once e f he h, ne-eqb (fin m f .edge) e d))
 
     -- what stands for a fin leads from its start to its end
@@ -260,7 +260,7 @@ module _ (x : Limits) (m : Model) (w : WellFormed x m) (e : ℕ) (t : Float) whe
           ends = (ap (λ z. z .end) q ∙ sym (ap (λ z. z .start) p), (ap (λ z. z .end) p ∙ sym (ap (λ z. z .end) r), tt));
         }
 
-    fin-at-new : (f : ℕ) → member f (edge m e .fins) ≡ true → fin (afterSplit m e t) (newFin m e f) ≡ finCopy m f
+    pub fin-at-new : (f : ℕ) → member f (edge m e .fins) ≡ true → fin (afterSplit m e t) (newFin m e f) ≡ finCopy m f
     fin-at-new f h =
         fin-fresh (newFin m e f) (omega arith)
         ∙ ap (λ i. finCopy m (getD (edge m e .fins) i 0)) (omega arith)

@@ -11,4 +11,6 @@ pub mod Rows
 pub mod Refusals
 pub mod Struck
 pub mod Doubled
+pub mod Walked
+pub mod Gained
 pub mod Statements

@@ -5,7 +5,7 @@ use native.Mathlib.Decide.{decLt}
 use native.Mathlib.Nat.{zero-add}
 use mathlib.Core.Path.{_≡_, refl, sym, ap, _∙_, subst}
 use mathlib.Core.Bool.{Bool, true, false, cond, _||_, false≢true, or-true}
-use mathlib.Core.List.{List, [], _∷_, _++_, append-assoc, append-nil}
+use mathlib.Core.List.{List, [], _∷_, _++_, map, append-assoc, append-nil}
 use lib.Dec.{eqb, ltb, leb}
 use lib.ListN.{length, getD, length-append}
 use borrow.Author.Tests.{ltb-true, leb-true, eqb-true, eqb-false, lt-ltb, ne-eqb, eq-eqb}
@@ -192,6 +192,20 @@ all-counted p (y ∷ l) h = rw (h y (rw (eq-eqb y y refl) (omega arith))) (all-c
     more false n q = q
 
 -- what is below n is below any greater number
+pub all-imply : (p q : ℕ → Bool) (l : List ℕ) → ((y : ℕ) → q y ≡ true → p y ≡ true) → all q l ≡ true → all p l ≡ true
+unfolding all
+all-imply p q [] h a = refl
+all-imply p q (y ∷ l) h a =
+    let both : (q y ≡ true) × (all q l ≡ true) = and-both (q y) (all q l) a in
+    rw (h y (both .0)) (all-imply p q l h (both .1))
+
+pub all-map : (p q : ℕ → Bool) (h : ℕ → ℕ) (l : List ℕ) → ((y : ℕ) → q y ≡ true → p (h y) ≡ true) → all q l ≡ true → all p (map h l) ≡ true
+unfolding all
+all-map p q h [] f a = refl
+all-map p q h (y ∷ l) f a =
+    let both : (q y ≡ true) × (all q l ≡ true) = and-both (q y) (all q l) a in
+    rw (f y (both .0)) (all-map p q h l f (both .1))
+
 pub all-weaken : (n k : ℕ) (l : List ℕ) → n ≤ k → all (λ x. ltb x n) l ≡ true → all (λ x. ltb x k) l ≡ true
 unfolding all
 all-weaken n k [] h a = refl

@@ -1,0 +1,117 @@
+-- What an accepted split does to the walks of each body. Assumes nothing.
+use Prim.Native.Nat.{ℕ, _<_}
+use native.Mathlib.Omega.{arith}
+use mathlib.Core.Path.{_≡_, refl, sym, ap, _∙_}
+use mathlib.Core.Bool.{Bool, true, false, cond, _&&_, _||_, false≢true, or-true}
+use mathlib.Core.List.{List, [], _∷_, _++_, map, map-append}
+use lib.Dec.{eqb, ltb}
+use lib.Ieee.{Float}
+use borrow.Author.Tests.{ltb-true, eqb-true, eqb-false, eq-eqb}
+use Rattle.meaning.specs.Lists.{all, member, joined}
+use Rattle.meaning.specs.Model.{Sense, positive, negative, Model, changed, shell, face, loop, fin, edge, Limits}
+use Rattle.meaning.specs.Walks.{shellsOf, faceWalk, faceEdges, edgeWalk}
+use Rattle.meaning.specs.Split.{newFin, beside, withNew, afterSplit}
+use Rattle.meaning.specs.Formed.{WellFormed}
+use Rattle.laws.specs.Tests.{and-both}
+use Rattle.laws.specs.Lists.{member-append}
+use Rattle.laws.specs.Clean.{own}
+use Rattle.laws.specs.Kept.{fin-was, in-fins, not-in-fins, fin-at-new}
+use Rattle.laws.specs.Doubled.{Doubled, ended, other, after, before, doubled-append, doubled-joined, doubled-mapped, Beside, firsts-doubled}
+use Rattle.laws.specs.Walked.{shells-there, faces-there}
+
+-- ---- in a joined list
+
+module _ (v : ℕ) (f : ℕ → List ℕ) where
+  pub joined-has : (l : List ℕ) (p : ℕ) → member p l ≡ true → member v (f p) ≡ true → member v (joined f l) ≡ true
+  unfolding joined member
+  joined-has [] p h q = absurd (false≢true h)
+  joined-has (y ∷ l) p h q = rw (member-append v (f y) (joined f l)) (by (eqb p y) refl h (joined-has l p))
+    where
+      by : (b : Bool) → eqb p y ≡ b → (b || member p l) ≡ true → (member p l ≡ true → member v (f p) ≡ true → member v (joined f l) ≡ true) → (member v (f y) || member v (joined f l)) ≡ true
+      by true r h g = rw (← eqb-true p y r, q)
+      by false r h g = rw (g h q) (or-true (member v (f y)))
+
+  pub joined-from : (l : List ℕ) → member v (joined f l) ≡ true → (p : ℕ) × (member p l ≡ true) × (member v (f p) ≡ true)
+  unfolding joined member
+  joined-from [] h = absurd (false≢true h)
+  joined-from (y ∷ l) h = by (member v (f y)) refl (sym (member-append v (f y) (joined f l)) ∙ h) (joined-from l)
+    where
+      by : (b : Bool) → member v (f y) ≡ b → (b || member v (joined f l)) ≡ true → (member v (joined f l) ≡ true → (p : ℕ) × (member p l ≡ true) × (member v (f p) ≡ true))
+          → (p : ℕ) × ((eqb p y || member p l) ≡ true) × (member v (f p) ≡ true)
+      by true r h g = (y, rw (eq-eqb y y refl), r)
+      by false r h g = let rest : (p : ℕ) × (member p l ≡ true) × (member v (f p) ≡ true) = g h in (rest .0, rw (rest .1) (or-true (eqb (rest .0) y)), rest .2)
+
+-- ---- the edges that the fins of a loop and the shells list: after the split the new edge stands beside the old one
+
+module _ (x : Limits) (m : Model) (w : WellFormed x m) (e : ℕ) (t : Float) (he : e < m .edges .used) where
+  halves-doubled : (s : Sense) (f n : ℕ) → fin (afterSplit m e t) f .edge ≡ e → fin (afterSplit m e t) n .edge ≡ m .edges .used
+      → Doubled e (m .edges .used) (e ∷ []) (map (λ i. fin (afterSplit m e t) i .edge) (beside s f n))
+  halves-doubled positive f n p q = rw (p, q) (after ended)
+  halves-doubled negative f n p q = rw (p, q) (before ended)
+
+  fin-doubled : (l f : ℕ) → f < m .fins .used → fin m f .owner ≡ l → Doubled e (m .edges .used) (fin m f .edge ∷ []) (map (λ i. fin (afterSplit m e t) i .edge) (withNew m e l f))
+  fin-doubled l f h o = by (eqb (fin m f .edge) e) refl
+    where
+      by : (b : Bool) → eqb (fin m f .edge) e ≡ b → Doubled e (m .edges .used) (fin m f .edge ∷ []) (map (λ i. fin (afterSplit m e t) i .edge) (withNew m e l f))
+      by true q =
+          let on : fin m f .edge ≡ e = eqb-true (fin m f .edge) e q in
+          let mem : member f (edge m e .fins) ≡ true = in-fins x m w e t he f h on in
+          rw (mem, eq-eqb (fin m f .owner) l o, on)
+          (halves-doubled (fin m f .sense) f (newFin m e f) (ap (λ r. r .edge) (fin-was x m w e t f h) ∙ on) (ap (λ r. r .edge) (fin-at-new x m w e t he f mem)))
+      by false q =
+          let off : fin m f .edge ≡ e → ⊥ = eqb-false (fin m f .edge) e q in
+          let old : fin m f .edge < m .edges .used = w .ids .fin-edge f h in
+          rw (not-in-fins x m w e t he f h off, fin-was x m w e t f h) (other off (λ z. omega arith) ended)
+
+  loop-doubled : (l : ℕ) (L : List ℕ) → all (λ f. ltb f (m .fins .used) && eqb (fin m f .owner) l) L ≡ true
+      → Doubled e (m .edges .used) (map (λ i. fin m i .edge) L) (map (λ i. fin (afterSplit m e t) i .edge) (joined (withNew m e l) L))
+  unfolding joined all
+  loop-doubled l [] a = ended
+  loop-doubled l (f ∷ L) a =
+      let both : (ltb f (m .fins .used) && eqb (fin m f .owner) l ≡ true) × (all (λ f. ltb f (m .fins .used) && eqb (fin m f .owner) l) L ≡ true) = and-both _ _ a in
+      let here : (ltb f (m .fins .used) ≡ true) × (eqb (fin m f .owner) l ≡ true) = and-both _ _ (both .0) in
+      rw (map-append (λ i. fin (afterSplit m e t) i .edge) (withNew m e l f) (joined (withNew m e l) L))
+      (doubled-append e (m .edges .used) (fin-doubled l f (ltb-true f (m .fins .used) (here .0)) (eqb-true (fin m f .owner) l (here .1))) (loop-doubled l L (both .1)))
+
+  face-doubled : (f : ℕ) → ltb f (m .faces .used) ≡ true → Doubled e (m .edges .used) (faceEdges m f) (faceEdges (afterSplit m e t) f)
+  unfolding afterSplit changed
+  face-doubled f h =
+      doubled-mapped e (m .edges .used) (λ i. fin m i .edge) (λ i. fin (afterSplit m e t) i .edge) (λ l. loop m l .fins) (λ l. joined (withNew m e l) (loop m l .fins)) (λ l. ltb l (m .loops .used)) (face m f .loops)
+      (λ l q. loop-doubled l (loop m l .fins) (own x m w l (ltb-true l (m .loops .used) q))) (w .ids .face-loops f (ltb-true f (m .faces .used) h))
+
+  wires-doubled : (W : List ℕ) → all (λ y. ltb y (m .edges .used)) W ≡ true → Doubled e (m .edges .used) W (joined (λ y. cond (eqb y e) (e ∷ m .edges .used ∷ []) (y ∷ [])) W)
+  unfolding joined all
+  wires-doubled [] a = ended
+  wires-doubled (y ∷ W) a =
+      let both : (ltb y (m .edges .used) ≡ true) × (all (λ y. ltb y (m .edges .used)) W ≡ true) = and-both _ _ a in
+      let old : y < m .edges .used = ltb-true y (m .edges .used) (both .0) in
+      by (eqb y e) refl old (wires-doubled W (both .1))
+    where
+      R : List ℕ
+      R = joined (λ y. cond (eqb y e) (e ∷ m .edges .used ∷ []) (y ∷ [])) W
+
+      by : (b : Bool) → eqb y e ≡ b → y < m .edges .used → Doubled e (m .edges .used) W R → Doubled e (m .edges .used) (y ∷ W) (cond b (e ∷ m .edges .used ∷ []) (y ∷ []) ++ R)
+      by true q h d = rw (eqb-true y e q) (after d)
+      by false q h d = other (eqb-false y e q) (λ z. omega arith) d
+
+  -- ---- the walks of a body
+
+  module _ (b : ℕ) (hb : b < m .bodies .used) where
+    pub face-walk-kept : faceWalk (afterSplit m e t) b ≡ faceWalk m b
+    unfolding faceWalk afterSplit changed
+    face-walk-kept = refl
+
+    pub edge-walk-after : Beside e (m .edges .used) (edgeWalk m b) (edgeWalk (afterSplit m e t) b)
+    unfolding edgeWalk
+    edge-walk-after =
+        rw face-walk-kept
+        (firsts-doubled e (m .edges .used) (λ z. omega arith)
+        (doubled-append e (m .edges .used)
+        (doubled-joined e (m .edges .used) (faceEdges m) (faceEdges (afterSplit m e t)) (λ f. ltb f (m .faces .used)) (faceWalk m b) face-doubled (faces-there x m w b hb))
+        wires))
+      where
+        wires : Doubled e (m .edges .used) (joined (λ s. shell m s .wireEdges) (shellsOf m b)) (joined (λ s. shell (afterSplit m e t) s .wireEdges) (shellsOf (afterSplit m e t) b))
+        wires =
+            unfold afterSplit changed in
+            doubled-joined e (m .edges .used) (λ s. shell m s .wireEdges) (λ s. joined (λ y. cond (eqb y e) (e ∷ m .edges .used ∷ []) (y ∷ [])) (shell m s .wireEdges)) (λ s. ltb s (m .shells .used)) (shellsOf m b)
+            (λ s h. wires-doubled (shell m s .wireEdges) (w .ids .shell-wire-edges s (ltb-true s (m .shells .used) h))) (shells-there x m w b hb)
