@@ -1,23 +1,23 @@
 -- What an accepted split does to the walks of each body. Assumes nothing.
-use Prim.Native.Nat.{ℕ, _<_}
+use Prim.Native.Nat.{ℕ, _≤_, _<_}
 use native.Mathlib.Omega.{arith}
 use mathlib.Core.Path.{_≡_, refl, sym, ap, _∙_}
-use mathlib.Core.Bool.{Bool, true, false, cond, _&&_, _||_, false≢true, or-true}
+use mathlib.Core.Bool.{Bool, true, false, cond, not, _&&_, _||_, false≢true, or-true}
 use mathlib.Core.List.{List, [], _∷_, _++_, map, map-append}
 use lib.Dec.{eqb, ltb}
 use lib.Ieee.{Float}
-use borrow.Author.Tests.{ltb-true, eqb-true, eqb-false, eq-eqb}
-use Rattle.meaning.specs.Lists.{all, member, joined}
+use borrow.Author.Tests.{ltb-true, eqb-true, eqb-false, lt-ltb, ne-eqb, eq-eqb, not-true}
+use Rattle.meaning.specs.Lists.{all, member, count, joined}
 use Rattle.meaning.specs.Model.{Sense, positive, negative, Model, changed, shell, face, loop, fin, edge, Limits}
-use Rattle.meaning.specs.Walks.{shellsOf, faceWalk, faceEdges, edgeWalk}
+use Rattle.meaning.specs.Walks.{shellsOf, faceWalk, faceEdges, edgeWalk, edgeVertices, vertexWalk}
 use Rattle.meaning.specs.Split.{newFin, beside, withNew, afterSplit}
 use Rattle.meaning.specs.Formed.{WellFormed}
 use Rattle.laws.specs.Tests.{and-both}
-use Rattle.laws.specs.Lists.{member-append}
+use Rattle.laws.specs.Lists.{member-counted, count-present, member-append, all-at, all-counted, joined-same}
 use Rattle.laws.specs.Clean.{own}
-use Rattle.laws.specs.Kept.{fin-was, in-fins, not-in-fins, fin-at-new}
-use Rattle.laws.specs.Doubled.{Doubled, ended, other, after, before, doubled-append, doubled-joined, doubled-mapped, Beside, firsts-doubled}
-use Rattle.laws.specs.Walked.{shells-there, faces-there}
+use Rattle.laws.specs.Kept.{fin-was, edge-other, in-fins, not-in-fins, fin-at-new}
+use Rattle.laws.specs.Doubled.{Doubled, ended, other, after, before, doubled-append, doubled-joined, doubled-mapped, member-without, without-none, Beside, firsts-doubled}
+use Rattle.laws.specs.Walked.{shells-there, faces-there, edges-there}
 
 -- ---- in a joined list
 
@@ -115,3 +115,44 @@ module _ (x : Limits) (m : Model) (w : WellFormed x m) (e : ℕ) (t : Float) (he
             unfold afterSplit changed in
             doubled-joined e (m .edges .used) (λ s. shell m s .wireEdges) (λ s. joined (λ y. cond (eqb y e) (e ∷ m .edges .used ∷ []) (y ∷ [])) (shell m s .wireEdges)) (λ s. ltb s (m .shells .used)) (shellsOf m b)
             (λ s h. wires-doubled (shell m s .wireEdges) (w .ids .shell-wire-edges s (ltb-true s (m .shells .used) h))) (shells-there x m w b hb)
+
+    -- an edge but the new one is walked as before
+    pub edge-walk-old : (p : ℕ) → (p ≡ m .edges .used → ⊥) → member p (edgeWalk (afterSplit m e t) b) ≡ member p (edgeWalk m b)
+    edge-walk-old p h = sym (member-without p (m .edges .used) (edgeWalk (afterSplit m e t) b) h) ∙ ap (member p) (edge-walk-after .back)
+
+    pub walked-below : (p : ℕ) → member p (edgeWalk m b) ≡ true → p < m .edges .used
+    walked-below p h = ltb-true p (m .edges .used) (all-at (λ i. ltb i (m .edges .used)) (edgeWalk m b) p (edges-there x m w b hb) (count-present p (edgeWalk m b) h))
+
+    -- ---- a body that does not have the edge
+
+    module _ (no-edge : member e (edgeWalk m b) ≡ false) where
+      pub edge-walk-same : edgeWalk (afterSplit m e t) b ≡ edgeWalk m b
+      edge-walk-same =
+          sym (without-none (m .edges .used) (edgeWalk (afterSplit m e t) b) (rw no-edge at (edge-walk-after .once)))
+          ∙ edge-walk-after .back
+
+      elsewhere : all (λ p. ltb p (m .edges .used) && not (eqb p e)) (edgeWalk m b) ≡ true
+      elsewhere = all-counted (λ p. ltb p (m .edges .used) && not (eqb p e)) (edgeWalk m b) each
+        where
+          each : (p : ℕ) → 1 ≤ count p (edgeWalk m b) → (ltb p (m .edges .used) && not (eqb p e)) ≡ true
+          each p h =
+              let there : member p (edgeWalk m b) ≡ true = member-counted p (edgeWalk m b) h in
+              rw (lt-ltb p (m .edges .used) (walked-below p there), ne-eqb p e (λ z. false≢true (sym no-edge ∙ ap (λ i. member i (edgeWalk m b)) (sym z) ∙ there)))
+
+      same-ends : (p : ℕ) → (ltb p (m .edges .used) && not (eqb p e)) ≡ true → edgeVertices (edge (afterSplit m e t) p) ≡ edgeVertices (edge m p)
+      same-ends p h =
+          let both : (ltb p (m .edges .used) ≡ true) × (not (eqb p e) ≡ true) = and-both (ltb p (m .edges .used)) (not (eqb p e)) h in
+          ap edgeVertices (edge-other x m w e t he p (ltb-true p (m .edges .used) (both .0)) (eqb-false p e (not-true (eqb p e) (both .1))))
+
+      acorns-same : joined (λ s. shell (afterSplit m e t) s .acornVertices) (shellsOf (afterSplit m e t) b) ≡ joined (λ s. shell m s .acornVertices) (shellsOf m b)
+      unfolding afterSplit changed
+      acorns-same = refl
+
+      pub vertex-walk-same : vertexWalk (afterSplit m e t) b ≡ vertexWalk m b
+      unfolding vertexWalk
+      vertex-walk-same =
+          rw (
+            edge-walk-same,
+            acorns-same,
+            joined-same (λ p. edgeVertices (edge (afterSplit m e t) p)) (λ p. edgeVertices (edge m p)) (λ p. ltb p (m .edges .used) && not (eqb p e)) (edgeWalk m b) same-ends elsewhere,
+          )

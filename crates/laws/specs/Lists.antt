@@ -10,9 +10,14 @@ use lib.Dec.{eqb, ltb, leb}
 use lib.ListN.{length, getD, length-append}
 use borrow.Author.Tests.{ltb-true, leb-true, eqb-true, eqb-false, lt-ltb, ne-eqb, eq-eqb}
 use Rattle.meaning.specs.Lists.{run, all, member, count, countIf, place, joined, meet, meets, firsts, same}
+use Rattle.meaning.specs.Formed.{bit}
 use Rattle.laws.specs.Tests.{and-both, or-false, or-none, or-first}
 
 -- ---- count
+
+pub count-none : (c : ℕ) → count c [] ≡ 0
+unfolding count
+count-none c = refl
 
 pub count-cons : (c y : ℕ) (l : List ℕ) → count c (y ∷ l) ≡ cond (eqb c y) 1 0 + count c l
 unfolding count
@@ -436,3 +441,65 @@ member-firsts x l = rw (member-meets x [] l) (unfold member in refl)
 -- what holds of all entries holds of all first meetings
 pub all-firsts : (p : ℕ → Bool) (l : List ℕ) → all p l ≡ true → all p (firsts l) ≡ true
 all-firsts p l a = all-counted p (firsts l) (λ c h. all-at p l c a (count-present c l (sym (member-firsts c l) ∙ member-counted c (firsts l) h)))
+
+-- in a list without repeats an entry is counted once
+pub count-once : (c : ℕ) (l : List ℕ) → count c l ≤ 1 → count c l ≡ bit (member c l)
+count-once c l h = by (member c l) refl
+  where
+    by : (b : Bool) → member c l ≡ b → count c l ≡ bit b
+    by true q = let there : 1 ≤ count c l = count-present c l q in omega arith
+    by false q = count-absent c l q
+
+-- ---- two lists in which every id stands equally often are equally long
+
+-- a list without the first x
+unfoldable pub lessOne : ℕ → List ℕ → List ℕ
+lessOne x [] = []
+lessOne x (y ∷ l) = cond (eqb x y) l (y ∷ lessOne x l)
+
+pub length-less : (x : ℕ) (l : List ℕ) → 1 ≤ count x l → suc (length (lessOne x l)) ≡ length l
+unfolding lessOne count
+length-less x [] h = absurd (omega arith)
+length-less x (y ∷ l) h = by (eqb x y) h (length-less x l)
+  where
+    by : (b : Bool) → 1 ≤ cond b (suc (count x l)) (count x l) → (1 ≤ count x l → suc (length (lessOne x l)) ≡ length l) → suc (length (cond b l (y ∷ lessOne x l))) ≡ suc (length l)
+    by true q f = refl
+    by false q f = ap suc (f q)
+
+pub count-less : (x c : ℕ) (l : List ℕ) → 1 ≤ count x l → cond (eqb c x) 1 0 + count c (lessOne x l) ≡ count c l
+unfolding lessOne count
+count-less x c [] h = absurd (omega arith)
+count-less x c (y ∷ l) h = by (eqb x y) refl h (count-less x c l)
+  where
+    swap : (b c : Bool) (i j : ℕ) → cond b 1 0 + i ≡ j → cond b 1 0 + cond c (suc i) i ≡ cond c (suc j) j
+    swap b true i j h = omega arith
+    swap b false i j h = h
+
+    front : (b : Bool) (i : ℕ) → cond b 1 0 + i ≡ cond b (suc i) i
+    front true i = omega arith
+    front false i = zero-add i
+
+    by : (b : Bool) → eqb x y ≡ b → 1 ≤ cond b (suc (count x l)) (count x l) → (1 ≤ count x l → cond (eqb c x) 1 0 + count c (lessOne x l) ≡ count c l)
+        → cond (eqb c x) 1 0 + count c (cond b l (y ∷ lessOne x l)) ≡ cond (eqb c y) (suc (count c l)) (count c l)
+    by true q r f = rw (eqb-true x y q) (front (eqb c y) (count c l))
+    by false q r f = swap (eqb c x) (eqb c y) (count c (lessOne x l)) (count c l) (f r)
+
+pub same-length : (k l : List ℕ) → ((c : ℕ) → count c k ≡ count c l) → length k ≡ length l
+same-length [] [] h = refl
+same-length [] (y ∷ l) h = let z : 1 ≤ count y [] = rw (h y, count-cons y y l, eq-eqb y y refl) (omega arith) in absurd (omega (arith, count-none y))
+same-length (y ∷ k) l h =
+    let there : 1 ≤ count y l = rw (← h y, count-cons y y k, eq-eqb y y refl) (omega arith) in
+    ap suc (same-length k (lessOne y l) (λ c. less c there)) ∙ length-less y l there
+  where
+    less : (c : ℕ) → 1 ≤ count y l → count c k ≡ count c (lessOne y l)
+    less c there =
+        let both : cond (eqb c y) 1 0 + count c k ≡ cond (eqb c y) 1 0 + count c (lessOne y l) = sym (count-cons c y k) ∙ h c ∙ sym (count-less y c l there) in
+        omega arith
+
+-- one id more
+pub length-more : (n : ℕ) (k l : List ℕ) → ((c : ℕ) → count c l ≡ count c k + bit (eqb c n)) → length l ≡ length k + 1
+length-more n k l h = same-length l (n ∷ k) (λ c. h c ∙ rw (count-cons c n k) (go (eqb c n) (count c k))) ∙ omega arith
+  where
+    go : (b : Bool) (i : ℕ) → i + bit b ≡ cond b 1 0 + i
+    go true i = omega arith
+    go false i = omega arith

@@ -31,6 +31,12 @@ pub or-first : (a b : Bool) → (a || b) ≡ true → b ≡ false → a ≡ true
 or-first true b e h = refl
 or-first false b e h = absurd (false≢true (sym h ∙ e))
 
+-- two tests of which each passes with the other
+pub both-ways : (a b : Bool) → (a ≡ true → b ≡ true) → (b ≡ true → a ≡ true) → a ≡ b
+both-ways true b f g = sym (f refl)
+both-ways false true f g = g refl
+both-ways false false f g = refl
+
 -- each test of a list that passes
 pub every-at : (l : List Bool) → every l ≡ true → (k : ℕ) → getD l k true ≡ true
 unfolding every
