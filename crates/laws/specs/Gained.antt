@@ -1,23 +1,24 @@
 -- What an accepted split does to the walks of each body. Assumes nothing.
-use Prim.Native.Nat.{ℕ, _≤_, _<_}
+use Prim.Native.Nat.{ℕ, _+_, _≤_, _<_}
 use native.Mathlib.Omega.{arith}
 use mathlib.Core.Path.{_≡_, refl, sym, ap, _∙_}
 use mathlib.Core.Bool.{Bool, true, false, cond, not, _&&_, _||_, false≢true, or-true}
 use mathlib.Core.List.{List, [], _∷_, _++_, map, map-append}
 use lib.Dec.{eqb, ltb}
+use lib.ListN.{length}
 use lib.Ieee.{Float}
 use borrow.Author.Tests.{ltb-true, eqb-true, eqb-false, lt-ltb, ne-eqb, eq-eqb, not-true}
-use Rattle.meaning.specs.Lists.{all, member, count, joined}
-use Rattle.meaning.specs.Model.{Sense, positive, negative, Model, changed, shell, face, loop, fin, edge, Limits}
+use Rattle.meaning.specs.Lists.{all, member, count, joined, listed, same}
+use Rattle.meaning.specs.Model.{Sense, positive, negative, Edge, Model, changed, shell, face, loop, fin, edge, Limits}
 use Rattle.meaning.specs.Walks.{shellsOf, faceWalk, faceEdges, edgeWalk, edgeVertices, vertexWalk}
-use Rattle.meaning.specs.Split.{newFin, beside, withNew, afterSplit}
-use Rattle.meaning.specs.Formed.{WellFormed}
-use Rattle.laws.specs.Tests.{and-both}
-use Rattle.laws.specs.Lists.{member-counted, count-present, member-append, all-at, all-counted, joined-same}
+use Rattle.meaning.specs.Split.{newFin, beside, withNew, firstHalf, secondHalf, afterSplit}
+use Rattle.meaning.specs.Formed.{bit, WellFormed}
+use Rattle.laws.specs.Tests.{and-both, or-first, both-ways}
+use Rattle.laws.specs.Lists.{count-above, member-counted, count-present, member-append, member-one, all-at, all-counted, joined-same, count-firsts, member-firsts, count-once, length-more}
 use Rattle.laws.specs.Clean.{own}
-use Rattle.laws.specs.Kept.{fin-was, edge-other, in-fins, not-in-fins, fin-at-new}
-use Rattle.laws.specs.Doubled.{Doubled, ended, other, after, before, doubled-append, doubled-joined, doubled-mapped, member-without, without-none, Beside, firsts-doubled}
-use Rattle.laws.specs.Walked.{shells-there, faces-there, edges-there}
+use Rattle.laws.specs.Kept.{fin-was, edge-fresh, edge-first, edge-other, in-fins, not-in-fins, fin-at-new}
+use Rattle.laws.specs.Doubled.{Doubled, ended, other, after, before, doubled-append, doubled-joined, doubled-mapped, member-without, without-none, length-without, Beside, firsts-doubled}
+use Rattle.laws.specs.Walked.{shells-there, faces-there, edges-there, vertices-there}
 
 -- ---- in a joined list
 
@@ -40,6 +41,24 @@ module _ (v : ℕ) (f : ℕ → List ℕ) where
           → (p : ℕ) × ((eqb p y || member p l) ≡ true) × (member v (f p) ≡ true)
       by true r h g = (y, rw (eq-eqb y y refl), r)
       by false r h g = let rest : (p : ℕ) × (member p l ≡ true) × (member v (f p) ≡ true) = g h in (rest .0, rw (rest .1) (or-true (eqb (rest .0) y)), rest .2)
+
+-- the vertices that a body's edges have, then its acorn vertices
+pub vertex-member : (m : Model) (b v : ℕ)
+    → member v (vertexWalk m b) ≡ (member v (joined (λ p. edgeVertices (edge m p)) (edgeWalk m b)) || member v (joined (λ s. shell m s .acornVertices) (shellsOf m b)))
+unfolding vertexWalk
+vertex-member m b v =
+    member-firsts v (joined (λ p. edgeVertices (edge m p)) (edgeWalk m b) ++ joined (λ s. shell m s .acornVertices) (shellsOf m b))
+    ∙ member-append v (joined (λ p. edgeVertices (edge m p)) (edgeWalk m b)) (joined (λ s. shell m s .acornVertices) (shellsOf m b))
+
+-- the ends of the two halves of an edge
+first-half-ends : (m : Model) (r : Edge) (v : ℕ) → member v (edgeVertices (firstHalf m r)) ≡ (member v (listed (r .start)) || eqb v (m .vertices .used))
+first-half-ends m r v = member-append v (listed (r .start)) (m .vertices .used ∷ []) ∙ ap (λ c. member v (listed (r .start)) || c) (member-one v (m .vertices .used))
+
+second-half-ends : (m : Model) (r : Edge) (v : ℕ) → member v (edgeVertices (secondHalf m r)) ≡ (eqb v (m .vertices .used) || member v (listed (r .end)))
+second-half-ends m r v = member-append v (m .vertices .used ∷ []) (listed (r .end)) ∙ ap (λ c. c || member v (listed (r .end))) (member-one v (m .vertices .used))
+
+whole-ends : (r : Edge) (v : ℕ) → member v (edgeVertices r) ≡ (member v (listed (r .start)) || member v (listed (r .end)))
+whole-ends r v = member-append v (listed (r .start)) (listed (r .end))
 
 -- ---- the edges that the fins of a loop and the shells list: after the split the new edge stands beside the old one
 
@@ -123,6 +142,10 @@ module _ (x : Limits) (m : Model) (w : WellFormed x m) (e : ℕ) (t : Float) (he
     pub walked-below : (p : ℕ) → member p (edgeWalk m b) ≡ true → p < m .edges .used
     walked-below p h = ltb-true p (m .edges .used) (all-at (λ i. ltb i (m .edges .used)) (edgeWalk m b) p (edges-there x m w b hb) (count-present p (edgeWalk m b) h))
 
+    acorns-same : joined (λ s. shell (afterSplit m e t) s .acornVertices) (shellsOf (afterSplit m e t) b) ≡ joined (λ s. shell m s .acornVertices) (shellsOf m b)
+    unfolding afterSplit changed
+    acorns-same = refl
+
     -- ---- a body that does not have the edge
 
     module _ (no-edge : member e (edgeWalk m b) ≡ false) where
@@ -144,10 +167,6 @@ module _ (x : Limits) (m : Model) (w : WellFormed x m) (e : ℕ) (t : Float) (he
           let both : (ltb p (m .edges .used) ≡ true) × (not (eqb p e) ≡ true) = and-both (ltb p (m .edges .used)) (not (eqb p e)) h in
           ap edgeVertices (edge-other x m w e t he p (ltb-true p (m .edges .used) (both .0)) (eqb-false p e (not-true (eqb p e) (both .1))))
 
-      acorns-same : joined (λ s. shell (afterSplit m e t) s .acornVertices) (shellsOf (afterSplit m e t) b) ≡ joined (λ s. shell m s .acornVertices) (shellsOf m b)
-      unfolding afterSplit changed
-      acorns-same = refl
-
       pub vertex-walk-same : vertexWalk (afterSplit m e t) b ≡ vertexWalk m b
       unfolding vertexWalk
       vertex-walk-same =
@@ -156,3 +175,115 @@ module _ (x : Limits) (m : Model) (w : WellFormed x m) (e : ℕ) (t : Float) (he
             acorns-same,
             joined-same (λ p. edgeVertices (edge (afterSplit m e t) p)) (λ p. edgeVertices (edge m p)) (λ p. ltb p (m .edges .used) && not (eqb p e)) (edgeWalk m b) same-ends elsewhere,
           )
+
+    -- ---- a body that has the edge
+
+    module _ (has-it : member e (edgeWalk m b) ≡ true) where
+      pub new-edge-walked : count (m .edges .used) (edgeWalk (afterSplit m e t) b) ≡ 1
+      new-edge-walked = edge-walk-after .once ∙ ap bit has-it
+
+      new-there : member (m .edges .used) (edgeWalk (afterSplit m e t) b) ≡ true
+      new-there = member-counted (m .edges .used) (edgeWalk (afterSplit m e t) b) (rw new-edge-walked (omega arith))
+
+      old-there : member e (edgeWalk (afterSplit m e t) b) ≡ true
+      old-there = edge-walk-old e (λ z. omega arith) ∙ has-it
+
+      pub edge-walk-longer : length (edgeWalk (afterSplit m e t) b) ≡ length (edgeWalk m b) + 1
+      edge-walk-longer = length-without (m .edges .used) (edgeWalk (afterSplit m e t) b) ∙ rw (edge-walk-after .back, new-edge-walked)
+
+      -- the ends of the edges: one list before, one after
+      Before : List ℕ
+      Before = joined (λ p. edgeVertices (edge m p)) (edgeWalk m b)
+
+      After : List ℕ
+      After = joined (λ p. edgeVertices (edge (afterSplit m e t) p)) (edgeWalk (afterSplit m e t) b)
+
+      new-vertex-met : member (m .vertices .used) After ≡ true
+      unfolding After
+      new-vertex-met =
+          joined-has (m .vertices .used) (λ p. edgeVertices (edge (afterSplit m e t) p)) (edgeWalk (afterSplit m e t) b) e old-there
+          (ap (λ r. member (m .vertices .used) (edgeVertices r)) (edge-first x m w e t he)
+          ∙ first-half-ends m (edge m e) (m .vertices .used)
+          ∙ rw (eq-eqb (m .vertices .used) (m .vertices .used) refl) (or-true (member (m .vertices .used) (listed (edge m e .start)))))
+
+      -- an end of an edge stays one
+      still-met : (v : ℕ) → member v Before ≡ true → member v After ≡ true
+      unfolding Before After
+      still-met v h = by (eqb (from .0) e) refl
+        where
+          from : (p : ℕ) × (member p (edgeWalk m b) ≡ true) × (member v (edgeVertices (edge m p)) ≡ true)
+          from = joined-from v (λ p. edgeVertices (edge m p)) (edgeWalk m b) h
+
+          put : (p : ℕ) → member p (edgeWalk (afterSplit m e t) b) ≡ true → member v (edgeVertices (edge (afterSplit m e t) p)) ≡ true → member v After ≡ true
+          put p = joined-has v (λ p. edgeVertices (edge (afterSplit m e t) p)) (edgeWalk (afterSplit m e t) b) p
+
+          side : (c : Bool) → member v (listed (edge m e .start)) ≡ c → (c || member v (listed (edge m e .end))) ≡ true → member v After ≡ true
+          side true q r =
+              put e old-there
+              (ap (λ i. member v (edgeVertices i)) (edge-first x m w e t he) ∙ first-half-ends m (edge m e) v ∙ rw q)
+          side false q r =
+              put (m .edges .used) new-there
+              (ap (λ i. member v (edgeVertices i)) (edge-fresh x m w e t (m .edges .used) (omega arith)) ∙ second-half-ends m (edge m e) v ∙ rw r (or-true (eqb v (m .vertices .used))))
+
+          by : (c : Bool) → eqb (from .0) e ≡ c → member v After ≡ true
+          by true q =
+              let here : member v (edgeVertices (edge m e)) ≡ true = ap (λ p. member v (edgeVertices (edge m p))) (sym (eqb-true (from .0) e q)) ∙ from .2 in
+              side (member v (listed (edge m e .start))) refl (sym (whole-ends (edge m e) v) ∙ here)
+          by false q =
+              let below : from .0 < m .edges .used = walked-below (from .0) (from .1) in
+              put (from .0) (edge-walk-old (from .0) (λ z. omega arith) ∙ from .1)
+              (ap (λ i. member v (edgeVertices i)) (edge-other x m w e t he (from .0) below (eqb-false (from .0) e q)) ∙ from .2)
+
+      -- and no vertex but the new one came in
+      was-met : (v : ℕ) → (v ≡ m .vertices .used → ⊥) → member v After ≡ true → member v Before ≡ true
+      unfolding Before After
+      was-met v old h = by (eqb (from .0) (m .edges .used)) refl (eqb (from .0) e) refl
+        where
+          from : (p : ℕ) × (member p (edgeWalk (afterSplit m e t) b) ≡ true) × (member v (edgeVertices (edge (afterSplit m e t) p)) ≡ true)
+          from = joined-from v (λ p. edgeVertices (edge (afterSplit m e t) p)) (edgeWalk (afterSplit m e t) b) h
+
+          put : (p : ℕ) → member p (edgeWalk m b) ≡ true → member v (edgeVertices (edge m p)) ≡ true → member v Before ≡ true
+          put p = joined-has v (λ p. edgeVertices (edge m p)) (edgeWalk m b) p
+
+          by : (c : Bool) → eqb (from .0) (m .edges .used) ≡ c → (d : Bool) → eqb (from .0) e ≡ d → member v Before ≡ true
+          by true q d r =
+              let last : edge (afterSplit m e t) (from .0) ≡ secondHalf m (edge m e) = edge-fresh x m w e t (from .0) (omega (arith, eqb-true (from .0) (m .edges .used) q)) in
+              let at-end : (eqb v (m .vertices .used) || member v (listed (edge m e .end))) ≡ true = sym (second-half-ends m (edge m e) v) ∙ ap (λ i. member v (edgeVertices i)) (sym last) ∙ from .2 in
+              let there : member v (listed (edge m e .end)) ≡ true = rw (ne-eqb v (m .vertices .used) old) at at-end in
+              put e has-it (whole-ends (edge m e) v ∙ rw there (or-true (member v (listed (edge m e .start)))))
+          by false q true r =
+              let same : from .0 ≡ e = eqb-true (from .0) e r in
+              let half : edge (afterSplit m e t) (from .0) ≡ firstHalf m (edge m e) = ap (edge (afterSplit m e t)) same ∙ edge-first x m w e t he in
+              let at-start : (member v (listed (edge m e .start)) || eqb v (m .vertices .used)) ≡ true = sym (first-half-ends m (edge m e) v) ∙ ap (λ i. member v (edgeVertices i)) (sym half) ∙ from .2 in
+              put e has-it (whole-ends (edge m e) v ∙ rw (or-first (member v (listed (edge m e .start))) (eqb v (m .vertices .used)) at-start (ne-eqb v (m .vertices .used) old)))
+          by false q false r =
+              let there : member (from .0) (edgeWalk m b) ≡ true = sym (edge-walk-old (from .0) (eqb-false (from .0) (m .edges .used) q)) ∙ from .1 in
+              put (from .0) there
+              (ap (λ i. member v (edgeVertices i)) (sym (edge-other x m w e t he (from .0) (walked-below (from .0) there) (eqb-false (from .0) e r))) ∙ from .2)
+
+      -- every vertex stands in the walk as often as before, and the new one once
+      pub vertex-walk-counts : (v : ℕ) → count v (vertexWalk (afterSplit m e t) b) ≡ count v (vertexWalk m b) + bit (eqb v (m .vertices .used))
+      unfolding Before After
+      vertex-walk-counts v = by (eqb v (m .vertices .used)) refl
+        where
+          once-after : count v (vertexWalk (afterSplit m e t) b) ≡ bit (member v (vertexWalk (afterSplit m e t) b))
+          once-after = unfold vertexWalk in count-once v (vertexWalk (afterSplit m e t) b) (count-firsts _ v)
+
+          once-before : count v (vertexWalk m b) ≡ bit (member v (vertexWalk m b))
+          once-before = unfold vertexWalk in count-once v (vertexWalk m b) (count-firsts _ v)
+
+          by : (c : Bool) → eqb v (m .vertices .used) ≡ c → count v (vertexWalk (afterSplit m e t) b) ≡ count v (vertexWalk m b) + bit c
+          by true q =
+              let same : v ≡ m .vertices .used = eqb-true v (m .vertices .used) q in
+              let new : member v After ≡ true = rw same new-vertex-met in
+              let absent : count v (vertexWalk m b) ≡ 0 = count-above (m .vertices .used) v (vertexWalk m b) (vertices-there x m w b hb) (omega arith) in
+              let there : member v (vertexWalk (afterSplit m e t) b) ≡ true = vertex-member (afterSplit m e t) b v ∙ rw new in
+              once-after ∙ rw (there, absent)
+          by false q =
+              let old : v ≡ m .vertices .used → ⊥ = eqb-false v (m .vertices .used) q in
+              let ends : member v After ≡ member v Before = both-ways (member v After) (member v Before) (was-met v old) (still-met v) in
+              let same : member v (vertexWalk (afterSplit m e t) b) ≡ member v (vertexWalk m b) = vertex-member (afterSplit m e t) b v ∙ rw (ends, acorns-same) (sym (vertex-member m b v)) in
+              once-after ∙ ap bit same ∙ sym once-before ∙ omega arith
+
+      pub vertex-walk-longer : length (vertexWalk (afterSplit m e t) b) ≡ length (vertexWalk m b) + 1
+      vertex-walk-longer = length-more (m .vertices .used) (vertexWalk m b) (vertexWalk (afterSplit m e t) b) vertex-walk-counts
