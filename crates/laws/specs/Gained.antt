@@ -1,24 +1,30 @@
 -- What an accepted split does to the walks of each body. Assumes nothing.
-use Prim.Native.Nat.{ℕ, _+_, _≤_, _<_}
+use Prim.Native.Nat.{ℕ, zero, suc, _+_, _≤_, _<_}
 use native.Mathlib.Omega.{arith}
-use mathlib.Core.Path.{_≡_, refl, sym, ap, _∙_}
+use mathlib.Core.Path.{_≡_, refl, sym, ap, _∙_, subst}
 use mathlib.Core.Bool.{Bool, true, false, cond, not, _&&_, _||_, false≢true, or-true}
 use mathlib.Core.List.{List, [], _∷_, _++_, map, map-append}
+use native.Mathlib.Numerals.{add-one}
+use lib.IntN.{pos, negℤ, sucℤ, predℤ, _+ℤ_, _-ℤ_, negℤ-sucℤ, +ℤ-predℤ, sucℤ-+ℤ, pred-suc}
 use lib.Dec.{eqb, ltb}
 use lib.ListN.{length}
 use lib.Ieee.{Float}
 use borrow.Author.Tests.{ltb-true, eqb-true, eqb-false, lt-ltb, ne-eqb, eq-eqb, not-true}
 use Rattle.meaning.specs.Lists.{all, member, count, joined, listed, same}
 use Rattle.meaning.specs.Model.{Sense, positive, negative, Edge, Model, changed, shell, face, loop, fin, edge, Limits}
+use Rattle.meaning.specs.Refuse.{given}
 use Rattle.meaning.specs.Walks.{shellsOf, faceWalk, faceEdges, edgeWalk, edgeVertices, vertexWalk}
-use Rattle.meaning.specs.Split.{newFin, beside, withNew, firstHalf, secondHalf, afterSplit}
-use Rattle.meaning.specs.Formed.{bit, WellFormed}
+use Rattle.meaning.specs.Split.{splitRefusal, EdgeSplit, splitLineEdge, newFin, beside, withNew, firstHalf, secondHalf, afterSplit, whereAccepted, modelAfter, Cut, afterAll}
+use Rattle.meaning.specs.Faults.{counts}
+use Rattle.meaning.specs.Formed.{bit, WellFormed, hasEdge}
+use Rattle.laws.specs.Terms.{Walked, OneMore, SameWalks, eulerNumber}
 use Rattle.laws.specs.Tests.{and-both, or-first, both-ways}
 use Rattle.laws.specs.Lists.{count-above, member-counted, count-present, member-append, member-one, all-at, all-counted, joined-same, count-firsts, member-firsts, count-once, length-more}
 use Rattle.laws.specs.Clean.{own}
-use Rattle.laws.specs.Kept.{fin-was, edge-fresh, edge-first, edge-other, in-fins, not-in-fins, fin-at-new}
+use Rattle.laws.specs.Kept.{fin-was, edge-fresh, edge-first, edge-other, in-fins, not-in-fins, fin-at-new, accepted, split-keeps}
+use Rattle.laws.specs.Refusals.{answered-given, given-value}
 use Rattle.laws.specs.Doubled.{Doubled, ended, other, after, before, doubled-append, doubled-joined, doubled-mapped, member-without, without-none, length-without, Beside, firsts-doubled}
-use Rattle.laws.specs.Walked.{shells-there, faces-there, edges-there, vertices-there}
+use Rattle.laws.specs.Walked.{shells-there, faces-there, edges-there, vertices-there, faces-given, edges-given, vertices-given, has-edge}
 
 -- ---- in a joined list
 
@@ -287,3 +293,92 @@ module _ (x : Limits) (m : Model) (w : WellFormed x m) (e : ℕ) (t : Float) (he
 
       pub vertex-walk-longer : length (vertexWalk (afterSplit m e t) b) ≡ length (vertexWalk m b) + 1
       vertex-walk-longer = length-more (m .vertices .used) (vertexWalk m b) (vertexWalk (afterSplit m e t) b) vertex-walk-counts
+
+-- ---- as the statements say it
+
+pub walked : (x : Limits) (m : Model) → WellFormed x m → (b : ℕ) → b < m .bodies .used → Walked m b
+walked x m w b hb =
+    record {
+      faces = rw (faces-given x m w b hb);
+      edges = rw (edges-given x m w b hb);
+      vertices = rw (vertices-given x m w b hb);
+    }
+
+module _ (x : Limits) (m : Model) (w : WellFormed x m) (e : ℕ) (t : Float) (h : splitRefusal x m e t ≡ 0) (b : ℕ) (hb : b < m .bodies .used) where
+  he : e < m .edges .used
+  he = accepted x m e t h .0
+
+  went : modelAfter x m e t ≡ afterSplit m e t
+  unfolding modelAfter
+  went = rw h
+
+  pub one-more : hasEdge m b e ≡ true → OneMore m (modelAfter x m e t) b (m .edges .used) (m .vertices .used)
+  one-more q =
+      let has-it : member e (edgeWalk m b) ≡ true = sym (has-edge x m w b hb e) ∙ q in
+      let counts : (v : ℕ) → count v (vertexWalk (afterSplit m e t) b) ≡ count v (vertexWalk m b) + bit (eqb v (m .vertices .used)) = vertex-walk-counts x m w e t he b hb has-it in
+      let absent : count (m .vertices .used) (vertexWalk m b) ≡ 0 = count-above (m .vertices .used) (m .vertices .used) (vertexWalk m b) (vertices-there x m w b hb) (omega arith) in
+      rw went
+      (record {
+        faces = face-walk-kept x m w e t he b hb;
+        new-edge = new-edge-walked x m w e t he b hb has-it;
+        old-edges = edge-walk-after x m w e t he b hb .back;
+        edges = edge-walk-longer x m w e t he b hb has-it;
+        new-vertex = counts (m .vertices .used) ∙ rw (absent, eq-eqb (m .vertices .used) (m .vertices .used) refl);
+        old-vertices = λ v d. counts v ∙ rw (ne-eqb v (m .vertices .used) d) (omega arith);
+        vertices = vertex-walk-longer x m w e t he b hb has-it;
+      })
+
+  pub same-walks : hasEdge m b e ≡ false → SameWalks m (modelAfter x m e t) b
+  same-walks q =
+      let no-edge : member e (edgeWalk m b) ≡ false = sym (has-edge x m w b hb e) ∙ q in
+      rw went
+      (record {
+        faces = face-walk-kept x m w e t he b hb;
+        edges = edge-walk-same x m w e t he b hb no-edge;
+        vertices = vertex-walk-same x m w e t he b hb no-edge;
+      })
+
+  one-each : (v k : ℕ) → pos (v + 1) -ℤ pos (k + 1) ≡ pos v -ℤ pos k
+  one-each v k =
+      rw (add-one v, add-one k)
+      (ap (λ i. pos (suc v) +ℤ i) (negℤ-sucℤ (pos k)) ∙ +ℤ-predℤ (sucℤ (pos v)) (negℤ (pos k)) ∙ ap predℤ (sucℤ-+ℤ (pos v) (negℤ (pos k))) ∙ pred-suc (pos v -ℤ pos k))
+
+  pub euler-step : eulerNumber (modelAfter x m e t) b ≡ eulerNumber m b
+  unfolding eulerNumber
+  euler-step = by (hasEdge m b e) refl
+    where
+      by : (c : Bool) → hasEdge m b e ≡ c
+          → pos (length (vertexWalk (modelAfter x m e t) b)) -ℤ pos (length (edgeWalk (modelAfter x m e t) b)) +ℤ pos (length (faceWalk (modelAfter x m e t) b)) ≡ pos (length (vertexWalk m b)) -ℤ pos (length (edgeWalk m b)) +ℤ pos (length (faceWalk m b))
+      by true q =
+          let more : OneMore m (modelAfter x m e t) b (m .edges .used) (m .vertices .used) = one-more q in
+          rw (more .vertices, more .edges, more .faces) (ap (λ i. i +ℤ pos (length (faceWalk m b))) (one-each (length (vertexWalk m b)) (length (edgeWalk m b))))
+      by false q = let same : SameWalks m (modelAfter x m e t) b = same-walks q in rw (same .faces, same .edges, same .vertices)
+
+pub split-adds-one : (x : Limits) (m : Model) (e : ℕ) (t : Float) (s : EdgeSplit) → WellFormed x m → splitLineEdge x m e t ≡ given s → (b : ℕ) → b < m .bodies .used
+    → hasEdge m b e ≡ true → OneMore m (modelAfter x m e t) b (s .newEdge) (s .vertex)
+split-adds-one x m e t s w a b hb q =
+    subst (λ r. OneMore m (modelAfter x m e t) b (r .newEdge) (r .vertex)) (given-value (splitRefusal x m e t) (record { originalEdge = e; newEdge = m .edges .used; vertex = m .vertices .used }) s a)
+    (one-more x m w e t (answered-given (splitRefusal x m e t) _ _ a) b hb q)
+
+pub split-leaves-others : (x : Limits) (m : Model) (e : ℕ) (t : Float) (s : EdgeSplit) → WellFormed x m → splitLineEdge x m e t ≡ given s → (b : ℕ) → b < m .bodies .used
+    → hasEdge m b e ≡ false → SameWalks m (modelAfter x m e t) b
+split-leaves-others x m e t s w a b hb q = same-walks x m w e t (answered-given (splitRefusal x m e t) _ _ a) b hb q
+
+bodies-kept : (x : Limits) (m : Model) (e : ℕ) (t : Float) → modelAfter x m e t .bodies ≡ m .bodies
+unfolding modelAfter afterSplit
+bodies-kept x m e t = go (splitRefusal x m e t)
+  where
+    go : (n : ℕ) → whereAccepted n m (afterSplit m e t) .bodies ≡ m .bodies
+    go zero = refl
+    go (suc n) = refl
+
+pub euler-kept : (x : Limits) (m : Model) (l : List Cut) → WellFormed x m → (b : ℕ) → b < m .bodies .used → eulerNumber (afterAll x m l) b ≡ eulerNumber m b
+unfolding afterAll
+euler-kept x m [] w b hb = refl
+euler-kept x m (c ∷ l) w b hb =
+    euler-kept x (modelAfter x m (c .edge) (c .fraction)) l (split-keeps x m (c .edge) (c .fraction) w) b (rw (bodies-kept x m (c .edge) (c .fraction)) hb)
+    ∙ go (splitRefusal x m (c .edge) (c .fraction)) refl
+  where
+    go : (n : ℕ) → splitRefusal x m (c .edge) (c .fraction) ≡ n → eulerNumber (modelAfter x m (c .edge) (c .fraction)) b ≡ eulerNumber m b
+    go zero h = euler-step x m w (c .edge) (c .fraction) h b hb
+    go (suc n) h = ap (λ k. eulerNumber k b) (unfold modelAfter in rw h)

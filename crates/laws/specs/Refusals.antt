@@ -293,6 +293,10 @@ module _ {A : Type 0} where
   answered-given zero a b h = refl
   answered-given (suc k) a b h = cc
 
+  pub given-value : (k : ℕ) (a b : A) → answered k a ≡ given b → a ≡ b
+  given-value zero a b h = cc
+  given-value (suc k) a b h = absurd (let z : _≡_ {A = ℕ} 0 1 = cc in omega arith)
+
 pub row-of-answer : (x : Limits) (m : Model) (e : ℕ) (t : Float) (n : ℕ) → splitLineEdge x m e t ≡ refused n → (k : ℕ) × RefusedAt (splitRows x m e t) k n
 row-of-answer x m e t zero h = absurd (never-zero (splitRefusal x m e t) h)
   where

@@ -1,12 +1,16 @@
 -- The words of the statements, as definitions.
-use Prim.Native.Nat.{ℕ, _≤_, _<_}
+use Prim.Native.Nat.{ℕ, _+_, _≤_, _<_}
 use mathlib.Core.Path.{_≡_}
 use mathlib.Core.Bool.{Bool, true, false, cond, not}
 use mathlib.Core.List.{List, [], _∷_}
 use mathlib.Core.Option.{some}
+use lib.IntN.{ℤ, pos, _+ℤ_, _-ℤ_}
 use lib.Dec.{eqb, ltb}
-use Rattle.meaning.specs.Lists.{member}
+use lib.ListN.{length}
+use Rattle.meaning.specs.Lists.{member, count}
 use Rattle.meaning.specs.Model.{Model, body, region, shell, face, loop, fin, edge, vertex, Limits}
+use Rattle.meaning.specs.Refuse.{given}
+use Rattle.meaning.specs.Walks.{faceWalk, bodyFaces, edgeWalk, bodyEdges, vertexWalk, bodyVertices}
 use Rattle.meaning.specs.Split.{splitRefusal, modelAfter, Cut}
 
 -- ---- striking out
@@ -74,3 +78,32 @@ pub record Restored (m after : Model) (split : List ℕ) : Type 0 where
   -- "but for the end of a split edge", which is a new vertex
   pub edge-end : (i : ℕ) → i < m .edges .used → member i split ≡ false → edge after i .end ≡ edge m i .end
   pub edge-end-split : (i : ℕ) → i < m .edges .used → member i split ≡ true → (v : ℕ) × (m .vertices .used ≤ v) × (edge after i .end ≡ some v)
+
+-- ---- the walks of a body
+
+-- no walk of a body is refused
+pub record Walked (m : Model) (b : ℕ) : Type 0 where
+  pub faces : bodyFaces m b ≡ given (faceWalk m b)
+  pub edges : bodyEdges m b ≡ given (edgeWalk m b)
+  pub vertices : bodyVertices m b ≡ given (vertexWalk m b)
+
+-- "exactly one more edge and vertex"
+pub record OneMore (m after : Model) (b newEdge newVertex : ℕ) : Type 0 where
+  pub faces : faceWalk after b ≡ faceWalk m b
+  -- the walk has the new edge once, and without it is the old one in its order
+  pub new-edge : count newEdge (edgeWalk after b) ≡ 1
+  pub old-edges : without newEdge (edgeWalk after b) ≡ edgeWalk m b
+  pub edges : length (edgeWalk after b) ≡ length (edgeWalk m b) + 1
+  -- the walk has the new vertex once, and every other as often as the old one
+  pub new-vertex : count newVertex (vertexWalk after b) ≡ 1
+  pub old-vertices : (v : ℕ) → (v ≡ newVertex → ⊥) → count v (vertexWalk after b) ≡ count v (vertexWalk m b)
+  pub vertices : length (vertexWalk after b) ≡ length (vertexWalk m b) + 1
+
+pub record SameWalks (m after : Model) (b : ℕ) : Type 0 where
+  pub faces : faceWalk after b ≡ faceWalk m b
+  pub edges : edgeWalk after b ≡ edgeWalk m b
+  pub vertices : vertexWalk after b ≡ vertexWalk m b
+
+-- "vertices minus edges plus faces"
+unfoldable pub eulerNumber : Model → ℕ → ℤ
+eulerNumber m b = pos (length (vertexWalk m b)) -ℤ pos (length (edgeWalk m b)) +ℤ pos (length (faceWalk m b))
