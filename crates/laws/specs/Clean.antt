@@ -14,8 +14,8 @@ use Rattle.meaning.specs.Lists.{all, member, count, joined, rotated, listed, is
 use Rattle.meaning.specs.Model.{Model, body, region, shell, face, loop, fin, edge, Limits}
 use Rattle.meaning.specs.Walks.{readableFin}
 use Rattle.meaning.specs.Faults.{Finding, fault, onlyIf, finFindings, meetsNext, opens, loopFindings, checkedFrom, faceFindings, shellFindings, regionFindings}
-use Rattle.meaning.specs.Formed.{belowMaybe, bit, Listed, regionOf, shellOf, loopOf, finOf, faceOf, closed, loopOk, WellFormed, topological}
-use Rattle.laws.specs.Tests.{and-both}
+use Rattle.meaning.specs.Formed.{belowMaybe, Listed, regionOf, shellOf, loopOf, finOf, faceOf, closed, loopOk, WellFormed, topological}
+use Rattle.laws.specs.Tests.{and-both, bit-true}
 use Rattle.laws.specs.Lists.{count-above, member-counted, all-counted, joined-nothing, joined-same}
 
 -- whatever a parent lists exists and names it
@@ -23,14 +23,10 @@ pub owned : (n k : ℕ) (list : ℕ → List ℕ) (names : ℕ → ℕ → Bool)
     → all (λ c. ltb c k && names c p) (list p) ≡ true
 owned n k list names s p hp a = all-counted (λ c. ltb c k && names c p) (list p) each
   where
-    tells : (b : Bool) → 1 ≤ bit b → b ≡ true
-    tells true q = refl
-    tells false q = absurd (omega arith)
-
     each : (c : ℕ) → 1 ≤ count c (list p) → (ltb c k && names c p) ≡ true
     each c h =
         elim (decLt c k) [
-          | yes was ↦ rw (lt-ltb c k was) (tells (names c p) (rw (s .once p c hp was) at h))
+          | yes was ↦ rw (lt-ltb c k was) (bit-true (names c p) (rw (s .once p c hp was) at h))
           | no new ↦ absurd (omega (arith, count-above k c (list p) a (omega arith)))
         ]
 

@@ -11,17 +11,17 @@ use lib.ListN.{length}
 use lib.Ieee.{Float}
 use borrow.Author.Tests.{ltb-true, eqb-true, eqb-false, lt-ltb, ne-eqb, eq-eqb, not-true}
 use Rattle.meaning.specs.Lists.{all, member, count, joined, listed, same}
-use Rattle.meaning.specs.Model.{Sense, positive, negative, Edge, Model, changed, shell, face, loop, fin, edge, Limits}
+use Rattle.meaning.specs.Model.{Sense, positive, negative, Edge, Model, changed, shell, face, loop, fin, edge, vertex, Limits}
 use Rattle.meaning.specs.Refuse.{given}
 use Rattle.meaning.specs.Walks.{shellsOf, faceWalk, faceEdges, edgeWalk, edgeVertices, vertexWalk}
-use Rattle.meaning.specs.Split.{splitRefusal, EdgeSplit, splitLineEdge, newFin, beside, withNew, firstHalf, secondHalf, afterSplit, whereAccepted, modelAfter, Cut, afterAll}
+use Rattle.meaning.specs.Split.{splitRefusal, EdgeSplit, splitLineEdge, newFin, beside, withNew, firstHalf, secondHalf, afterSplit, modelAfter, Cut, afterAll}
 use Rattle.meaning.specs.Faults.{counts}
 use Rattle.meaning.specs.Formed.{bit, WellFormed, hasEdge}
 use Rattle.laws.specs.Terms.{Walked, OneMore, SameWalks, eulerNumber}
 use Rattle.laws.specs.Tests.{and-both, or-first, both-ways}
 use Rattle.laws.specs.Lists.{count-above, member-counted, count-present, member-append, member-one, all-at, all-counted, joined-same, count-firsts, member-firsts, count-once, length-more}
 use Rattle.laws.specs.Clean.{own}
-use Rattle.laws.specs.Kept.{fin-was, edge-fresh, edge-first, edge-other, in-fins, not-in-fins, fin-at-new, accepted, split-keeps}
+use Rattle.laws.specs.Kept.{fin-was, edge-fresh, edge-first, edge-other, in-fins, not-in-fins, fin-at-new, accepted, went-to, bodies-kept, split-keeps}
 use Rattle.laws.specs.Refusals.{answered-given, given-value}
 use Rattle.laws.specs.Doubled.{Doubled, ended, other, after, before, doubled-append, doubled-joined, doubled-mapped, member-without, without-none, length-without, Beside, firsts-doubled}
 use Rattle.laws.specs.Walked.{shells-there, faces-there, edges-there, vertices-there, faces-given, edges-given, vertices-given, has-edge}
@@ -308,16 +308,12 @@ module _ (x : Limits) (m : Model) (w : WellFormed x m) (e : ℕ) (t : Float) (h 
   he : e < m .edges .used
   he = accepted x m e t h .0
 
-  went : modelAfter x m e t ≡ afterSplit m e t
-  unfolding modelAfter
-  went = rw h
-
   pub one-more : hasEdge m b e ≡ true → OneMore m (modelAfter x m e t) b (m .edges .used) (m .vertices .used)
   one-more q =
       let has-it : member e (edgeWalk m b) ≡ true = sym (has-edge x m w b hb e) ∙ q in
       let counts : (v : ℕ) → count v (vertexWalk (afterSplit m e t) b) ≡ count v (vertexWalk m b) + bit (eqb v (m .vertices .used)) = vertex-walk-counts x m w e t he b hb has-it in
       let absent : count (m .vertices .used) (vertexWalk m b) ≡ 0 = count-above (m .vertices .used) (m .vertices .used) (vertexWalk m b) (vertices-there x m w b hb) (omega arith) in
-      rw went
+      rw (went-to x m e t 0 h)
       (record {
         faces = face-walk-kept x m w e t he b hb;
         new-edge = new-edge-walked x m w e t he b hb has-it;
@@ -331,7 +327,7 @@ module _ (x : Limits) (m : Model) (w : WellFormed x m) (e : ℕ) (t : Float) (h 
   pub same-walks : hasEdge m b e ≡ false → SameWalks m (modelAfter x m e t) b
   same-walks q =
       let no-edge : member e (edgeWalk m b) ≡ false = sym (has-edge x m w b hb e) ∙ q in
-      rw went
+      rw (went-to x m e t 0 h)
       (record {
         faces = face-walk-kept x m w e t he b hb;
         edges = edge-walk-same x m w e t he b hb no-edge;
@@ -364,14 +360,6 @@ pub split-leaves-others : (x : Limits) (m : Model) (e : ℕ) (t : Float) (s : Ed
     → hasEdge m b e ≡ false → SameWalks m (modelAfter x m e t) b
 split-leaves-others x m e t s w a b hb q = same-walks x m w e t (answered-given (splitRefusal x m e t) _ _ a) b hb q
 
-bodies-kept : (x : Limits) (m : Model) (e : ℕ) (t : Float) → modelAfter x m e t .bodies ≡ m .bodies
-unfolding modelAfter afterSplit
-bodies-kept x m e t = go (splitRefusal x m e t)
-  where
-    go : (n : ℕ) → whereAccepted n m (afterSplit m e t) .bodies ≡ m .bodies
-    go zero = refl
-    go (suc n) = refl
-
 pub euler-kept : (x : Limits) (m : Model) (l : List Cut) → WellFormed x m → (b : ℕ) → b < m .bodies .used → eulerNumber (afterAll x m l) b ≡ eulerNumber m b
 unfolding afterAll
 euler-kept x m [] w b hb = refl
@@ -381,4 +369,4 @@ euler-kept x m (c ∷ l) w b hb =
   where
     go : (n : ℕ) → splitRefusal x m (c .edge) (c .fraction) ≡ n → eulerNumber (modelAfter x m (c .edge) (c .fraction)) b ≡ eulerNumber m b
     go zero h = euler-step x m w (c .edge) (c .fraction) h b hb
-    go (suc n) h = ap (λ k. eulerNumber k b) (unfold modelAfter in rw h)
+    go (suc n) h = ap (λ k. eulerNumber k b) (went-to x m (c .edge) (c .fraction) (suc n) h)

@@ -650,6 +650,19 @@ unfolding splitRefusal
 accepted x m e t h =
     (ltb-true e (m .edges .used) (unless-zero 1 (ltb e (m .edges .used)) (none-refused (splitTests x m e t) h 1)), none-refused (splitTests x m e t) h 12)
 
+-- the model after a split, by the split's number
+pub went-to : (x : Limits) (m : Model) (e : ℕ) (t : Float) (n : ℕ) → splitRefusal x m e t ≡ n → modelAfter x m e t ≡ whereAccepted n m (afterSplit m e t)
+unfolding modelAfter
+went-to x m e t n h = rw h
+
+pub bodies-kept : (x : Limits) (m : Model) (e : ℕ) (t : Float) → modelAfter x m e t .bodies ≡ m .bodies
+unfolding modelAfter afterSplit
+bodies-kept x m e t = go (splitRefusal x m e t)
+  where
+    go : (n : ℕ) → whereAccepted n m (afterSplit m e t) .bodies ≡ m .bodies
+    go zero = refl
+    go (suc n) = refl
+
 pub split-keeps : (x : Limits) (m : Model) (e : ℕ) (t : Float) → WellFormed x m → WellFormed x (modelAfter x m e t)
 unfolding modelAfter
 split-keeps x m e t w = go (splitRefusal x m e t) refl

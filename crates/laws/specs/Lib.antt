@@ -13,4 +13,5 @@ pub mod Struck
 pub mod Doubled
 pub mod Walked
 pub mod Gained
+pub mod Report
 pub mod Statements

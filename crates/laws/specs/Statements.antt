@@ -9,17 +9,23 @@ use lib.Ieee.{Float}
 use Rattle.meaning.specs.Model.{Model, vertex, Limits}
 use Rattle.meaning.specs.Refuse.{refused, given}
 use Rattle.meaning.specs.Split.{splitRefusal, EdgeSplit, splitLineEdge, modelAfter, Cut, afterAll}
-use Rattle.meaning.specs.Formed.{WellFormed, hasEdge}
+use Rattle.meaning.specs.Formed.{WellFormed, topologicalReport, emptyReport, hasEdge}
 use Rattle.laws.specs.Terms.{splitEdges, Restored, Walked, OneMore, SameWalks, eulerNumber}
 use Rattle.laws.specs.Kept.{splits-keep}
 use Rattle.laws.specs.Rows.{splitRows, Passes, RefusedAt}
 use Rattle.laws.specs.Refusals.{refused-where, accepted-where, accepted-only, one-row, answered-given, row-of-answer, refused-keeps}
 use Rattle.laws.specs.Struck.{splits-restore}
 use Rattle.laws.specs.Gained.{walked, split-adds-one, split-leaves-others, euler-kept}
+use Rattle.laws.specs.Report.{reports-kept}
 
 -- 1. "After any sequence of splits, accepted or refused, it is still well formed"
 pub stays-well-formed : (x : Limits) (m : Model) (l : List Cut) → WellFormed x m → WellFormed x (afterAll x m l)
 stays-well-formed = splits-keep
+
+-- 2. "and a body whose topological report was empty keeps an empty one"
+pub empty-report-stays : (x : Limits) (m : Model) (l : List Cut) → WellFormed x m → (b : ℕ) → b < m .bodies .used
+    → emptyReport (topologicalReport m b) ≡ true → emptyReport (topologicalReport (afterAll x m l) b) ≡ true
+empty-report-stays = reports-kept
 
 -- 3. "An accepted split gives each body that has the edge exactly one more edge and vertex", its faces the same, and leaves the walks of every other body
 -- as they were (`OneMore`, `SameWalks`: Terms.antt; no walk of a well-formed model is refused)

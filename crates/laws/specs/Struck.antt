@@ -11,12 +11,12 @@ use lib.Ieee.{Float}
 use borrow.Author.Tests.{ltb-true, eqb-true, lt-ltb, le-ltb, ne-eqb}
 use Rattle.meaning.specs.Lists.{all, member, joined}
 use Rattle.meaning.specs.Model.{Sense, positive, negative, Edge, Model, extended, changed, body, region, shell, face, loop, fin, edge, vertex, Limits}
-use Rattle.meaning.specs.Split.{splitRefusal, newFin, beside, withNew, firstHalf, afterSplit, whereAccepted, modelAfter, Cut, afterAll}
+use Rattle.meaning.specs.Split.{splitRefusal, newFin, beside, withNew, firstHalf, afterSplit, modelAfter, Cut, afterAll}
 use Rattle.meaning.specs.Formed.{WellFormed}
 use Rattle.laws.specs.Terms.{sifted, struck, splitEdges, Restored}
 use Rattle.laws.specs.Tests.{and-both}
 use Rattle.laws.specs.Lists.{member-front-none, member-back-none, member-front}
-use Rattle.laws.specs.Kept.{fin-was, accepted, split-keeps}
+use Rattle.laws.specs.Kept.{fin-was, accepted, went-to, split-keeps}
 
 -- ---- sifted
 
@@ -295,11 +295,8 @@ splits-restore x m (c ∷ l) w =
     M : Model
     M = afterAll x (modelAfter x m (c .edge) (c .fraction)) l
 
-    went : (n : ℕ) → splitRefusal x m (c .edge) (c .fraction) ≡ n → modelAfter x m (c .edge) (c .fraction) ≡ whereAccepted n m (afterSplit m (c .edge) (c .fraction))
-    went n h = unfold modelAfter in rw h
-
     go : (n : ℕ) → splitRefusal x m (c .edge) (c .fraction) ≡ n → Restored (modelAfter x m (c .edge) (c .fraction)) M S → Restored m M (cond (eqb n 0) (c .edge ∷ S) S)
     go zero h r =
         restored-then m (modelAfter x m (c .edge) (c .fraction)) M (c .edge ∷ []) S
-        (rw (went 0 h) (restored-split x m w (c .edge) (c .fraction) (accepted x m (c .edge) (c .fraction) h .0))) r
-    go (suc n) h r = rw (ne-eqb (suc n) 0 (λ z. omega arith)) (subst (λ k. Restored k M S) (went (suc n) h) r)
+        (rw (went-to x m (c .edge) (c .fraction) 0 h) (restored-split x m w (c .edge) (c .fraction) (accepted x m (c .edge) (c .fraction) h .0))) r
+    go (suc n) h r = rw (ne-eqb (suc n) 0 (λ z. omega arith)) (subst (λ k. Restored k M S) (went-to x m (c .edge) (c .fraction) (suc n) h) r)

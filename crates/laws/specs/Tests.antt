@@ -11,7 +11,7 @@ use borrow.Author.Tests.{ltb-true, eqb-true, lt-ltb, eq-eqb}
 use Rattle.geometry.specs.Refuse.{_unless_, _then_}
 use Rattle.meaning.specs.Lists.{allBelow, every, same}
 use Rattle.meaning.specs.Refuse.{firstRefusal, firstOf}
-use Rattle.meaning.specs.Formed.{belowMaybe}
+use Rattle.meaning.specs.Formed.{belowMaybe, bit}
 
 -- ---- conjunctions
 
@@ -36,6 +36,10 @@ pub both-ways : (a b : Bool) → (a ≡ true → b ≡ true) → (b ≡ true →
 both-ways true b f g = sym (f refl)
 both-ways false true f g = g refl
 both-ways false false f g = refl
+
+pub bit-true : (b : Bool) → 1 ≤ bit b → b ≡ true
+bit-true true q = refl
+bit-true false q = absurd (omega arith)
 
 -- each test of a list that passes
 pub every-at : (l : List Bool) → every l ≡ true → (k : ℕ) → getD l k true ≡ true
