@@ -2,7 +2,7 @@
 use Prim.Native.Nat.{ℕ, zero, suc, _≤_, _<_}
 use native.Mathlib.Omega.{arith}
 use native.Mathlib.Decide.{decLt}
-use mathlib.Core.Path.{_≡_, refl, sym, _∙_}
+use mathlib.Core.Path.{_≡_, refl, sym, ap, _∙_}
 use mathlib.Core.Bool.{Bool, true, false, not, false≢true}
 use mathlib.Core.List.{List, [], _∷_, _++_, map}
 use lib.Dec.{eqb}
@@ -37,6 +37,10 @@ pub first-joined : (f : ℕ → List Step) (g : ℕ → ℕ) (l : List ℕ) → 
 unfolding first joined firstOf
 first-joined f g [] h = refl
 first-joined f g (i ∷ l) h = rw (first-append (f i) (joined f l), h i, first-joined f g l h)
+
+pub first-empty : first [] ≡ 0
+unfolding first
+first-empty = refl
 
 -- a row of one test
 pub first-one : (n : ℕ) (b : Bool) → first (n when not b ∷ []) ≡ (n unless b)
@@ -116,12 +120,12 @@ module _ (x : Limits) (m : Model) (e : ℕ) (t : Float) where
   row11 seen [] = refl
   row11 seen (i ∷ l) = rw (first-append (finSteps m e t i) (finsSteps m e t (i ∷ seen) l), steps i, row11 (i ∷ seen) l)
 
-  pub rows-are-tests : map first (splitRows x m e t) ≡ splitTests x m e t
+  pub rows-are-tests : map first (splitRows x m e t) ≡ 0 ∷ splitTests x m e t
   unfolding test7 test8 test9 test10 test12 test13
   rows-are-tests =
       let pcurves : first (joined (λ i. 2 when not (has (m .fins) i) ∷ 7 when fin m i .pcurve ∷ []) (edge m e .fins)) ≡ test3 m e =
       first-joined (λ i. 2 when not (has (m .fins) i) ∷ 7 when fin m i .pcurve ∷ []) (λ i. 2 unless has (m .fins) i then 7 if fin m i .pcurve) (edge m e .fins) row3 in
-      simp (first-one, two, row5, row11, pcurves)
+      simp (first-empty, first-one, two, row5, row11, pcurves)
 
 -- ---- the first number of a list that is not 0
 
@@ -149,6 +153,11 @@ pub first-none : (l : List ℕ) → ((k : ℕ) → getD l k 0 ≡ 0) → firstRe
 unfolding firstRefusal
 first-none [] h = refl
 first-none (i ∷ l) h = rw (h 0) (first-none l (λ k. h (suc k)))
+
+-- a 0 in front changes nothing
+pub first-passed : (l : List ℕ) → firstRefusal (0 ∷ l) ≡ firstRefusal l
+unfolding firstRefusal
+first-passed l = refl
 
 -- ---- a row passes where its number is 0, and says its number else
 
@@ -235,22 +244,24 @@ module _ (x : Limits) (m : Model) (e : ℕ) (t : Float) where
   numbered-fins seen (i ∷ l) = (omega arith, numbered-append (finSteps m e t i) (finsSteps m e t (i ∷ seen) l) (omega arith) (numbered-fins (i ∷ seen) l))
 
   numbered-rows : AllNumbered (splitRows x m e t)
-  numbered-rows = (omega arith, (omega arith, (numbered-joined (λ i. 2 when not (has (m .fins) i) ∷ 7 when fin m i .pcurve ∷ []) (edge m e .fins) (λ i. omega arith), (omega arith, (omega arith, (omega arith, (omega arith, (omega arith, (omega arith, (omega arith, (numbered-fins [] (edge m e .fins), (omega arith, (omega arith, tt)))))))))))))
+  numbered-rows = (tt, (omega arith, (omega arith, (numbered-joined (λ i. 2 when not (has (m .fins) i) ∷ 7 when fin m i .pcurve ∷ []) (edge m e .fins) (λ i. omega arith), (omega arith, (omega arith, (omega arith, (omega arith, (omega arith, (omega arith, (omega arith, (numbered-fins [] (edge m e .fins), (omega arith, (omega arith, tt))))))))))))))
+
+  rows-number : firstRefusal (map first (splitRows x m e t)) ≡ splitRefusal x m e t
+  unfolding splitRefusal
+  rows-number = ap firstRefusal (rows-are-tests x m e t) ∙ first-passed (splitTests x m e t)
 
   -- "the number is n at row k exactly if the tests before k pass and row k's condition for n holds"
   pub refused-where : (k n : ℕ) → RefusedAt (splitRows x m e t) k (suc n) → splitRefusal x m e t ≡ suc n
-  unfolding splitRefusal
   refused-where k n r =
-      rw (← rows-are-tests x m e t)
-      (first-at (map first (splitRows x m e t)) k n
+      sym rows-number
+      ∙ first-at (map first (splitRows x m e t)) k n
       (λ j h. getD-map (splitRows x m e t) j ∙ passes-zero (getD (splitRows x m e t) j []) (r .before j h))
-      (getD-map (splitRows x m e t) k ∙ says-number (getD (splitRows x m e t) k []) n (r .here)))
+      (getD-map (splitRows x m e t) k ∙ says-number (getD (splitRows x m e t) k []) n (r .here))
 
   pub refused-only : (n : ℕ) → splitRefusal x m e t ≡ suc n → (k : ℕ) × RefusedAt (splitRows x m e t) k (suc n)
-  unfolding splitRefusal
   refused-only n h =
       let R : List (List Step) = splitRows x m e t in
-      let f : (k : ℕ) × ((j : ℕ) → j < k → getD (map first R) j 0 ≡ 0) × (getD (map first R) k 0 ≡ suc n) = first-found (map first R) n (rw rows-are-tests h) in (
+      let f : (k : ℕ) × ((j : ℕ) → j < k → getD (map first R) j 0 ≡ 0) × (getD (map first R) k 0 ≡ suc n) = first-found (map first R) n (rows-number ∙ h) in (
         f .0,
         record {
           before = λ j q. zero-passes (getD R j []) (numbered-at R numbered-rows j) (sym (getD-map R j) ∙ f .1 j q);
@@ -259,17 +270,14 @@ module _ (x : Limits) (m : Model) (e : ℕ) (t : Float) where
       )
 
   pub accepted-where : ((k : ℕ) → Passes (getD (splitRows x m e t) k [])) → splitRefusal x m e t ≡ 0
-  unfolding splitRefusal
   accepted-where p =
-      rw (← rows-are-tests x m e t)
-      (first-none (map first (splitRows x m e t)) (λ k. getD-map (splitRows x m e t) k ∙ passes-zero (getD (splitRows x m e t) k []) (p k)))
+      sym rows-number
+      ∙ first-none (map first (splitRows x m e t)) (λ k. getD-map (splitRows x m e t) k ∙ passes-zero (getD (splitRows x m e t) k []) (p k))
 
   pub accepted-only : splitRefusal x m e t ≡ 0 → (k : ℕ) → Passes (getD (splitRows x m e t) k [])
-  unfolding splitRefusal
   accepted-only h k =
       let R : List (List Step) = splitRows x m e t in
-      zero-passes (getD R k []) (numbered-at R numbered-rows k)
-      (sym (getD-map R k) ∙ none-refused (map first R) (rw rows-are-tests h) k)
+      zero-passes (getD R k []) (numbered-at R numbered-rows k) (sym (getD-map R k) ∙ none-refused (map first R) (rows-number ∙ h) k)
 
 -- a list of rows refuses at one row
 pub one-row : (rows : List (List Step)) (j k n i : ℕ) → RefusedAt rows j n → RefusedAt rows k i → j ≡ k

@@ -87,8 +87,10 @@ splitRows x m e t =
     let fins = edge m e .fins in
     let c = curve m (the (edge m e .curve)) in
     let p = splitPoint m e t in
+    -- there is no row 0: 01 counts from 1
+    []
     -- 1. "Fraction not finite, ≤ 0 or ≥ 1: 1"
-    (1 when not (finite t && lt zeroF t && lt t (real 1)) ∷ [])
+    ∷ (1 when not (finite t && lt zeroF t && lt t (real 1)) ∷ [])
     -- 2. "Edge missing: 2"
     ∷ (2 when not (has (m .edges) e) ∷ [])
     -- 3. "Per listed fin: missing 2, pcurve mark 7"
@@ -131,7 +133,7 @@ pub record Says (l : List Step) (n : ℕ) : Type 0 where
   pub here : getD l step never .holds ≡ true
   pub number : getD l step never .number ≡ n
 
--- the rows before the k-th (from 0) pass, and the k-th says n
+-- the rows before row k pass, and row k says n
 pub record RefusedAt (rows : List (List Step)) (k n : ℕ) : Type 0 where
   pub before : (j : ℕ) → j < k → Passes (getD rows j [])
   pub here : Says (getD rows k []) n
