@@ -1,2 +1,2 @@
-// Laws of the plain list functions of meaning (specs/), and no code. A crate has a function, so here is one.
+// Laws of the plain functions of meaning (specs/), and no code. A crate has a function, so here is one.
 pub fn nothing() {}

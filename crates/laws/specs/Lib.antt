@@ -1,0 +1,14 @@
+pub mod Terms
+pub mod Loops
+pub mod Findings
+pub mod Decided
+pub mod Clean
+pub mod Kept
+pub mod Rows
+pub mod Refusals
+pub mod Struck
+pub mod Doubled
+pub mod Walked
+pub mod Gained
+pub mod Report
+pub mod Statements
