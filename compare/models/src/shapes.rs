@@ -25,6 +25,21 @@ fn cross(a: Triple, b: Triple) -> Triple {
     ]
 }
 
+/// Of a plane through the first two corners and the last, or along a blade.
+fn normal(corners: &[Triple]) -> Triple {
+    if let [a, b] = *corners {
+        let line = minus(a, b);
+        let across = if line[0].abs() < line[1].abs() {
+            [1.0, 0.0, 0.0]
+        } else {
+            [0.0, 1.0, 0.0]
+        };
+        return cross(line, across);
+    }
+    let [first, second, last] = [0, 1, corners.len() - 1].map(|k| corners[k]);
+    cross(minus(second, first), minus(last, first))
+}
+
 impl Place {
     const ORIGIN: Self = Self {
         turn: [[1.0, 0.0, 0.0], [0.0, 1.0, 0.0], [0.0, 0.0, 1.0]],
@@ -115,6 +130,14 @@ fn polygon(n: usize, radius: f64) -> Mesh {
     let mut mesh = prism(n, radius, 1.0);
     mesh.points.truncate(n);
     mesh.faces = vec![vec![(0..n).collect()]];
+    mesh
+}
+
+/// A face whose loop runs along one edge and back.
+fn blade(radius: f64) -> Mesh {
+    let mut mesh = polygon(3, radius);
+    mesh.points.truncate(2);
+    mesh.faces = vec![vec![vec![1, 0]]];
     mesh
 }
 
@@ -218,10 +241,7 @@ impl Plain {
                 .iter()
                 .map(|&k| self.vertices[vertices[k]].point)
                 .collect();
-            let normal = cross(
-                minus(corners[1], corners[0]),
-                minus(corners[corners.len() - 1], corners[0]),
-            );
+            let normal = normal(&corners);
             self.surfaces.push(Carrier::Plane(corners[0], normal));
             let face = self.faces.len();
             self.faces.push(Face {
@@ -370,11 +390,7 @@ impl Plain {
                 "face with a hole"
             }
             10 => {
-                let mut mesh = polygon(3, a);
-                mesh.faces[0][0].truncate(2);
-                mesh.faces[0][0].reverse();
-                mesh.points.truncate(2);
-                self.blade(random, &mesh, &place, style);
+                self.sheet(random, &blade(a), &place, style);
                 "blade"
             }
             11 => {
@@ -396,12 +412,11 @@ impl Plain {
                 "solid with a hole within"
             }
             _ => {
-                let mesh = if random.one_in(2) {
+                let mut mesh = if random.one_in(2) {
                     polygon(3, a)
                 } else {
                     box_of([a, b, c])
                 };
-                let mut mesh = mesh;
                 mesh.faces.truncate(3);
                 let shell = self.sheet(random, &mesh, &place, style);
                 let body = self.bodies.len() - 1;
@@ -410,25 +425,6 @@ impl Plain {
                 self.acorn(random, &place, shell);
                 "general"
             }
-        }
-    }
-
-    /// A face whose loop runs along one edge and back.
-    fn blade(&mut self, random: &mut Random, mesh: &Mesh, place: &Place, style: Style) {
-        let first = self.faces.len();
-        self.sheet(random, mesh, place, style);
-        let surface = self.faces[first].surface.expect("a mesh's face");
-        let line = minus(
-            self.vertices[self.vertices.len() - 1].point,
-            self.vertices[self.vertices.len() - 2].point,
-        );
-        let across = if line[0].abs() < line[1].abs() {
-            [1.0, 0.0, 0.0]
-        } else {
-            [0.0, 1.0, 0.0]
-        };
-        if let Carrier::Plane(_, normal) = &mut self.surfaces[surface] {
-            *normal = cross(line, across);
         }
     }
 
