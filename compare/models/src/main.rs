@@ -14,6 +14,7 @@ mod shapes;
 
 use std::collections::BTreeMap;
 use std::fs;
+use std::slice;
 
 use gensolid_topo::Model;
 
@@ -132,10 +133,15 @@ impl Writer {
 
         for body in 0..plain.bodies.len() {
             let samples = asked.samples;
-            let Some(found) = original::report(model, &self.names, body, true, samples) else {
-                self.counts.add("reports with geometry", "left out");
-                continue;
+            let found = match original::report(model, &self.names, body, true, samples) {
+                Ok(found) => found,
+                Err(why) => {
+                    self.counts
+                        .add("reports with geometry", format!("left out, {why}"));
+                    continue;
+                }
             };
+            self.counts.add("off curve", found.words);
             let found = found.numbers;
             let faults = &found[2..];
             let sort = match (faults.len(), found[1]) {
@@ -202,7 +208,7 @@ impl Writer {
             let refused = found.refused();
             let call = format!("{name} {edge} 0x{:x}", bits(fraction));
             let row = self.counts.answer("split", format!("split {call}"), found);
-            self.answers(name, &format!("split-{number}"), &[row.clone()]);
+            self.answers(name, &format!("split-{number}"), slice::from_ref(&row));
             let behind = original::read(&after, &self.names);
             if refused {
                 assert_eq!(

@@ -517,9 +517,11 @@ struct CurveTest {
     sign: Option<Sign>,
 }
 
-/// The curve tests that the checker makes of a body, in its order. None where the distance of one
-/// is not finite, which is a fault 26 of the Rust and no failure by 01.
-fn curve_tests(model: &Model, body: BodyId) -> Option<Vec<CurveTest>> {
+/// Why a report is left out.
+type Why = &'static str;
+
+/// The curve tests that the checker makes of a body, in its order.
+fn curve_tests(model: &Model, body: BodyId) -> std::result::Result<Vec<CurveTest>, Why> {
     let mut tests = Vec::new();
     let precision = model.precision();
     let regions = model.body(body).map_or(&[][..], |r| &r.regions);
@@ -554,7 +556,10 @@ fn curve_tests(model: &Model, body: BodyId) -> Option<Vec<CurveTest>> {
                     .project_to_curve(curve, vertex.point, precision)
                 {
                     Ok(near) => near,
-                    Err(error) if error.message() == FAR => return None,
+                    // A fault 26 of the Rust, and no failure by 01, which computes no distance.
+                    Err(error) if error.message() == FAR => {
+                        return Err("a distance by hypot is not finite");
+                    }
                     Err(_) => continue,
                 };
                 let delta = vector(vertex.point, near.point);
@@ -567,12 +572,20 @@ fn curve_tests(model: &Model, body: BodyId) -> Option<Vec<CurveTest>> {
             }
         }
     }
-    Some(tests)
+    Ok(tests)
 }
 
 /// 01's departure: the off-curve verdicts by intervals in place of those by `hypot`; the rest of the
-/// report as it is. None where that cannot be read off the Rust's report.
-fn by_intervals(mut report: Report, tests: &[CurveTest]) -> Option<Report> {
+/// report as it is.
+fn by_intervals(report: &Report, tests: &[CurveTest]) -> std::result::Result<Report, Why> {
+    if tests
+        .iter()
+        .any(|test| !test.off && test.sign == Some(Sign::Positive))
+    {
+        // It would have to be put between the other faults.
+        return Err("a fault that hypot does not see");
+    }
+    let mut report = report.clone();
     let mut off = tests.iter().filter(|test| test.off);
     report.faults.retain(|fault| {
         if fault.kind != FaultKind::VertexOffCurve {
@@ -584,39 +597,41 @@ fn by_intervals(mut report: Report, tests: &[CurveTest]) -> Option<Report> {
     });
     assert!(off.next().is_none(), "each such test is a fault");
     report.unchecked += tests.iter().filter(|test| test.sign.is_none()).count();
-    // A fault that `hypot` does not see would have to be put between the others.
-    let unseen = |test: &CurveTest| !test.off && test.sign == Some(Sign::Positive);
-    (!tests.iter().any(unseen)).then_some(report)
+    Ok(report)
 }
 
-/// The report's `unchecked`, then reason, kind, class and id of each fault. None where it is left
-/// out: see `by_intervals`, and for geometry that is "other" 01's rule has no likeness in the Rust.
+/// The report's `unchecked`, then reason, kind, class and id of each fault; or why it is left out.
+/// In words: whether 01's intervals changed it.
 pub fn report(
     model: &Model,
     names: &Names,
     body: usize,
     geometry: bool,
     samples: usize,
-) -> Option<Told> {
+) -> std::result::Result<Told, Why> {
     let body = names.bodies[body];
     let options = CheckOptions {
         geometry,
         edge_samples: samples,
     };
-    if geometry {
+    let mut words = "as by hypot";
+    let mut answer = check_body(model, body, &options);
+    if geometry && let Ok(report) = &mut answer {
         let plain = read(model, names);
         if [plain.curves, plain.surfaces]
             .concat()
             .contains(&Carrier::Other)
         {
-            return None;
+            // 01's rule for it has no likeness in the Rust.
+            return Err("other geometry");
         }
+        let changed = by_intervals(report, &curve_tests(model, body)?)?;
+        if changed != *report {
+            words = "changed by intervals";
+        }
+        *report = changed;
     }
-    let answer = match check_body(model, body, &options) {
-        Ok(report) if geometry => Ok(by_intervals(report, &curve_tests(model, body)?)?),
-        answer => answer,
-    };
-    Some(told(answer, |report| {
+    let mut told = told(answer, |report| {
         let faults = report.faults.iter().flat_map(|fault| {
             let (class, id) = entity(fault.entity);
             [reason(fault), fault.kind as u64, class, id as u64]
@@ -625,5 +640,7 @@ pub fn report(
             .into_iter()
             .chain(faults)
             .collect()
-    }))
+    });
+    told.words = words.into();
+    Ok(told)
 }

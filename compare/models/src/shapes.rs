@@ -251,10 +251,9 @@ impl Plain {
                 surface: Some(self.surfaces.len() - 1),
                 positive: true,
             });
-            for shell in [front, back.filter(|&shell| front != Some(shell))] {
-                if let Some(shell) = shell {
-                    self.shells[shell].faces.push(face);
-                }
+            let other = back.filter(|&shell| front != Some(shell));
+            for shell in [front, other].into_iter().flatten() {
+                self.shells[shell].faces.push(face);
             }
             for cycle in loops {
                 let owner = self.loops.len();
