@@ -130,7 +130,7 @@ pub fn damage(plain: &mut Plain, random: &mut Random) -> (String, Option<usize>)
     loop {
         // A class, by how much of it there is to be damaged; then one of its records.
         let class = random.pick(&[
-            0, 1, 2, 2, 3, 3, 3, 4, 4, 4, 5, 5, 5, 5, 6, 6, 6, 6, 6, 6, 7, 7, 7, 7, 8, 8, 9, 9,
+            0, 1, 1, 2, 2, 3, 3, 3, 4, 4, 4, 5, 5, 5, 5, 6, 6, 6, 6, 6, 6, 7, 7, 7, 7, 8, 8, 9, 9,
         ]);
         if used[class] == 0 {
             continue;
@@ -308,10 +308,18 @@ pub fn damage(plain: &mut Plain, random: &mut Random) -> (String, Option<usize>)
             7 => {
                 let r = &mut plain.vertices[id];
                 let axis = random.below(3);
-                match random.below(6) {
+                match random.below(8) {
                     0 => {
                         r.tolerance = own(random, precision);
                         format!("vertex {id}: tolerance {:?}", r.tolerance)
+                    }
+                    6 | 7 => {
+                        // With an edge of the session's tolerance: just at the sum of both.
+                        if random.one_in(2) {
+                            r.tolerance = Some(precision);
+                        }
+                        r.point[axis] += r.tolerance.unwrap_or(precision * 0.5) + precision * 0.5;
+                        format!("vertex {id}: at the tolerances' sum along axis {axis}")
                     }
                     1 | 2 => {
                         r.point[axis] = random.pick(&[

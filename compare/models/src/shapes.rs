@@ -430,7 +430,7 @@ impl Plain {
     /// A sound model of one or two bodies, and what it is.
     pub fn sound(random: &mut Random) -> (Self, String) {
         let mut plain = Self {
-            precision: random.pick(&[0.001, 0.001, 0.001, 0.0009765625, 1.0e-8, 0.125]),
+            precision: random.pick(&[0.001, 0.001, 0.0009765625, 0.0009765625, 1.0e-8, 0.125]),
             ..Self::default()
         };
         let mut shape = plain.add(random).to_string();
