@@ -1,24 +1,24 @@
-//! Stands in for nurbs.rs: the sources name these types, and a model of lines and planes has no
-//! value of them. Here none can be made.
+//! Stands in for nurbs.rs: the sources name these types, and nothing here evaluates a value of them. A
+//! curve can be made, so that a fin can have a pcurve, of which a split reads only that it is there.
 
 use crate::curve::CurveDerivs;
 use crate::param::ParamRange;
 use crate::surface::SurfaceDerivs;
 
 #[derive(Clone, Debug, PartialEq)]
-pub enum BCurve {}
+pub struct BCurve;
 
 impl BCurve {
     pub fn eval(&self, _t: f64) -> CurveDerivs {
-        match *self {}
+        unreachable!("no comparison evaluates a spline")
     }
 
     pub fn range(&self) -> ParamRange {
-        match *self {}
+        unreachable!("no comparison evaluates a spline")
     }
 
     pub fn knots(&self) -> &[f64] {
-        match *self {}
+        unreachable!("no comparison evaluates a spline")
     }
 }
 

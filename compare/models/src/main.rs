@@ -1,0 +1,349 @@
+//! Writes random models with what the Rust answers about them, as statements for the prover:
+//!
+//!     models FOLDER COUNT SEED FIRST BATCH [KEPT]
+//!
+//! FOLDER/batch-1.antt and so on have BATCH models each, from the number FIRST on. A model is made
+//! of the seed and its number. Of its damages all are done, or those that KEPT numbers (`0,2`; `-`
+//! for none). What was met is counted, and the counts are printed.
+
+mod damage;
+mod original;
+mod plain;
+mod random;
+mod shapes;
+
+use std::collections::BTreeMap;
+use std::fs;
+use std::slice;
+
+use gensolid_topo::Model;
+
+use original::{Names, Told};
+use plain::{Plain, bits, list};
+use random::Random;
+
+const HEAD: &str = "-- Models and the Rust's answers, written by compare/models.
+use mathlib.Core.Path.{_≡_, refl}
+use mathlib.Core.Bool.{true, false}
+use mathlib.Core.List.{List, [], _∷_}
+use mathlib.Core.Option.{none, some}
+use Rattle.geometry.specs.declared.tolerance.Tolerance.the-variants.{Session}
+use Rattle.meaning.specs.Model.{Model, acorn, wire, sheet, solid, general, positive, negative}
+use Rattle.meaning.specs.Computing.{computing}
+use Rattle.meaning.specs.Shown.{own, at, bodyR, regionR, shellR, faceR, loopR, finR, edgeR, vertexR, lineR, planeR, otherR, modelR, tables, faces, edges, vertices, ends, box, volume, report, bounds, split, behind}
+";
+
+fn numbers(list: &[u64]) -> String {
+    plain::list(list.iter().map(|n| {
+        if *n < 1 << 32 {
+            n.to_string()
+        } else {
+            format!("0x{n:x}")
+        }
+    }))
+}
+
+fn tables(plain: &Plain) -> String {
+    let rows = |rows: &Vec<Vec<u64>>| list(rows.iter().map(|row| numbers(row)));
+    list(plain.numbers().iter().map(|table| rows(table) + "\n   "))
+}
+
+/// What has been met, and how often.
+#[derive(Default)]
+struct Counts(BTreeMap<String, BTreeMap<String, usize>>);
+
+impl Counts {
+    fn add(&mut self, what: &str, case: impl ToString) {
+        let cases = self.0.entry(what.into()).or_default();
+        *cases.entry(case.to_string()).or_default() += 1;
+    }
+
+    /// The call that a row asks, and its answer.
+    fn answer(&mut self, what: &str, call: String, answer: Told) -> Row {
+        self.add(what, answer.words);
+        (call, answer.numbers)
+    }
+}
+
+/// What is asked, as a term, and the answer's numbers.
+type Row = (String, Vec<u64>);
+
+struct Writer {
+    text: String,
+    counts: Counts,
+    names: Names,
+}
+
+/// One model, asked about.
+struct Asked<'a> {
+    name: String,
+    model: &'a Model,
+    plain: &'a Plain,
+    samples: usize,
+    /// Edges that are of more interest than others.
+    near: Vec<usize>,
+    /// Whether the model behind an accepted split is asked about too.
+    follow: bool,
+}
+
+impl Writer {
+    fn statement(&mut self, model: &str, what: &str, left: &str, right: &str) {
+        self.text += &format!(
+            "\n{model}-{what} : {left} ≡ {right}\nunfolding {model} computing\n{model}-{what} = refl\n"
+        );
+    }
+
+    /// One statement about several answers.
+    fn answers(&mut self, model: &str, what: &str, rows: &[Row]) {
+        let left = list(rows.iter().map(|row| &row.0));
+        let right = list(rows.iter().map(|row| numbers(&row.1)));
+        self.statement(model, what, &left, &right);
+    }
+
+    fn ask(&mut self, asked: &Asked, random: &mut Random) {
+        let Asked {
+            name, model, plain, ..
+        } = asked;
+        let term = plain.term();
+        self.text += &format!("\nunfoldable {name} : Model\n{name} =\n  {term}\n");
+        self.statement(name, "tables", &format!("tables {name}"), &tables(plain));
+
+        // Each body, and one that is missing.
+        let [mut walks, mut boxes, mut volumes, mut reports] = [const { Vec::new() }; 4];
+        for body in 0..=plain.bodies.len() {
+            let counts = &mut self.counts;
+            let found = original::walks(model, &self.names, body);
+            for (what, found) in ["faces", "edges", "vertices"].into_iter().zip(found) {
+                let call = format!("{what} {name} {body}");
+                walks.push(counts.answer(&format!("walk of {what}"), call, found));
+            }
+            let found = original::boxed(model, &self.names, body);
+            boxes.push(counts.answer("box", format!("box {name} {body}"), found));
+            let found = original::volume(model, &self.names, body);
+            volumes.push(counts.answer("volume", format!("volume {name} {body}"), found));
+            let found = original::report(model, &self.names, body, false, asked.samples)
+                .expect("without geometry nothing is left out");
+            let call = format!("report {name} false {} {body}", asked.samples);
+            reports.push((call, found.numbers));
+        }
+        self.answers(name, "walks", &walks);
+        self.answers(name, "box", &boxes);
+        self.answers(name, "volume", &volumes);
+        self.answers(name, "topology", &reports);
+
+        for body in 0..plain.bodies.len() {
+            let samples = asked.samples;
+            let found = match original::report(model, &self.names, body, true, samples) {
+                Ok(found) => found,
+                Err(why) => {
+                    self.counts
+                        .add("reports with geometry", format!("left out, {why}"));
+                    continue;
+                }
+            };
+            self.counts.add("off curve", found.words);
+            let found = found.numbers;
+            let faults = &found[2..];
+            let sort = match (faults.len(), found[1]) {
+                (0, 0) => "fit to saw",
+                (0, _) => "no fault, some unchecked",
+                (_, 0) => "faults",
+                _ => "faults, some unchecked",
+            };
+            self.counts.add("reports with geometry", sort);
+            for fault in faults.chunks(4) {
+                self.counts.add("reasons", format!("{:>2}", fault[0]));
+            }
+            let row = (format!("report {name} true {samples} {body}"), found);
+            self.answers(name, &format!("geometry-{body}"), &[row]);
+        }
+
+        let fins = [(); 3].map(|_| random.below(plain.fins.len() + 1));
+        let ends: Vec<_> = fins
+            .into_iter()
+            .map(|fin| {
+                let found = original::ends(model, &self.names, fin);
+                let call = format!("ends {name} {fin}");
+                self.counts.answer("fin_vertices", call, found)
+            })
+            .collect();
+        self.answers(name, "ends", &ends);
+        self.splits(asked, random);
+    }
+
+    fn splits(&mut self, asked: &Asked, random: &mut Random) {
+        let Asked {
+            name, model, plain, ..
+        } = asked;
+        let mut edges: Vec<usize> = asked.near.clone();
+        edges.push(random.below(plain.edges.len() + 1));
+        if asked.follow {
+            edges.push(random.below(plain.edges.len() + 1));
+        }
+        edges.sort_unstable();
+        edges.dedup();
+        let bounds: Vec<_> = edges
+            .iter()
+            .map(|&edge| {
+                let found = original::bounds(model, &self.names, edge);
+                let call = format!("bounds {name} {edge}");
+                self.counts.answer("bounds", call, found)
+            })
+            .collect();
+        self.answers(name, "bounds", &bounds);
+
+        let mut questions: Vec<(usize, f64)> = Vec::new();
+        for (&edge, (_, bounds)) in edges.iter().zip(&bounds) {
+            let part = random.part();
+            questions.push((edge, random.pick(&[0.25, 0.5, part])));
+            if asked.follow && random.one_in(3) {
+                questions.push((edge, fraction(random, plain.precision, bounds)));
+            }
+        }
+        // All tables behind the first split that is accepted and the first that is not.
+        let mut shown = [false; 2];
+        for (number, (edge, fraction)) in questions.into_iter().enumerate() {
+            let mut after = (*model).clone();
+            let found = original::split(&mut after, &self.names, edge, fraction);
+            let refused = found.refused();
+            let call = format!("{name} {edge} 0x{:x}", bits(fraction));
+            let row = self.counts.answer("split", format!("split {call}"), found);
+            self.answers(name, &format!("split-{number}"), slice::from_ref(&row));
+            let behind = original::read(&after, &self.names);
+            if refused {
+                assert_eq!(
+                    behind.numbers(),
+                    plain.numbers(),
+                    "a refusal alters nothing"
+                );
+            }
+            if shown[usize::from(refused)] {
+                continue;
+            }
+            shown[usize::from(refused)] = true;
+            let what = format!("behind-{number}");
+            self.statement(name, &what, &format!("behind {call}"), &tables(&behind));
+            if !refused && asked.follow {
+                self.counts.add("models", "behind a split");
+                let asked = Asked {
+                    name: format!("{name}-after"),
+                    model: &after,
+                    plain: &behind,
+                    samples: asked.samples,
+                    near: vec![edge, row.1[2] as usize],
+                    follow: false,
+                };
+                self.ask(&asked, random);
+            }
+        }
+    }
+}
+
+/// Near the ends, around the precision, and no fraction at all.
+fn fraction(random: &mut Random, precision: f64, bounds: &[u64]) -> f64 {
+    let length = match bounds {
+        [0, lo, hi] => f64::from_bits(*hi) - f64::from_bits(*lo),
+        _ => 1.0,
+    };
+    let part = precision / length;
+    let times = random.pick(&[0.9, 0.999, 1.0, 1.0 + 4.0 * f64::EPSILON, 1.001, 2.0]);
+    match random.below(4) {
+        0 => part * times,
+        1 => 1.0 - part * times,
+        2 => random.pick(&[1.0e-4, 1.0 - 1.0e-12, f64::MIN_POSITIVE, 1.0f64.next_down()]),
+        _ => random.pick(&[0.0, -0.0, 1.0, -0.25, 1.5, f64::NAN, f64::INFINITY]),
+    }
+}
+
+/// The model of a number, damaged, with what was done to it; none where the Rust makes no such line,
+/// plane or tolerance.
+fn made(
+    names: &Names,
+    seed: u64,
+    number: u64,
+    kept: Option<&[usize]>,
+) -> Option<(Model, Plain, Vec<String>, Vec<usize>)> {
+    let mut random = Random::new(seed, number, 0);
+    let (mut plain, shape) = Plain::sound(&mut random);
+    let damages = random.pick(&[0, 1, 1, 2, 2, 3, 4]);
+    let mut told = vec![shape];
+    let mut near = Vec::new();
+    for k in 0..damages {
+        if kept.is_some_and(|kept| !kept.contains(&k)) {
+            continue;
+        }
+        let mut random = Random::new(seed, number, k as u64 + 1);
+        let (what, edge) = damage::damage(&mut plain, &mut random);
+        told.push(format!("damage {k}, {what}"));
+        near.extend(edge);
+    }
+    let model = original::build(&mut plain, names).ok()?;
+    assert_eq!(original::read(&model, names).numbers(), plain.numbers());
+    Some((model, plain, told, near))
+}
+
+fn main() {
+    let arguments: Vec<String> = std::env::args().skip(1).collect();
+    let number = |k: usize| -> u64 {
+        let word = arguments.get(k).expect("FOLDER COUNT SEED FIRST BATCH");
+        word.parse().expect("a number")
+    };
+    let folder = &arguments[0];
+    let (count, seed, first, batch) = (number(1), number(2), number(3), number(4));
+    let kept: Option<Vec<usize>> = arguments
+        .get(5)
+        .map(|words| words.split(',').filter_map(|w| w.parse().ok()).collect());
+
+    let mut writer = Writer {
+        text: String::new(),
+        counts: Counts::default(),
+        names: Names::new(),
+    };
+    let mut done = 0;
+    let mut next = first;
+    while done < count {
+        let Some((model, plain, told, near)) = made(&writer.names, seed, next, kept.as_deref())
+        else {
+            next += 1;
+            assert!(
+                kept.is_none() || next < first + 1000,
+                "the Rust makes no such model"
+            );
+            continue;
+        };
+        writer.counts.add("shapes", &told[0]);
+        writer.counts.add(
+            "models",
+            match told.len() {
+                1 => "sound".into(),
+                n => format!("{} damages", n - 1),
+            },
+        );
+        writer.text += &format!("\n-- model {next}: {}\n", told.join("; "));
+        let mut random = Random::new(seed, next, 100);
+        let asked = Asked {
+            name: format!("model-{next}"),
+            model: &model,
+            plain: &plain,
+            samples: random.pick(&[3, 3, 3, 3, 0, 2]),
+            near,
+            follow: true,
+        };
+        writer.ask(&asked, &mut random);
+        done += 1;
+        next += 1;
+        if done % batch == 0 || done == count {
+            let file = format!("{folder}/batch-{}.antt", done.div_ceil(batch));
+            fs::write(&file, format!("{HEAD}{}", writer.text))
+                .expect("the folder can be written to");
+            writer.text.clear();
+        }
+    }
+    for (what, cases) in &writer.counts.0 {
+        let cases: Vec<String> = cases
+            .iter()
+            .map(|(case, n)| format!("{}: {n}", case.trim()))
+            .collect();
+        println!("{what}: {}", cases.join("; "));
+    }
+}
