@@ -1,4 +1,4 @@
--- The test of well-formedness gives the facts: `wellFormed x m ≡ true` makes a `WellFormed x m`. Assumes nothing.
+-- The test of well-formedness passes exactly where the facts hold: `decided`, `facts-pass`. Assumes nothing.
 use Prim.Native.Nat.{ℕ, _≤_, _<_}
 use native.Mathlib.Omega.{arith}
 use native.Mathlib.Decide.{decLt}
@@ -7,13 +7,13 @@ use mathlib.Core.Bool.{Bool, true}
 use mathlib.Core.List.{List}
 use lib.Dec.{eqb, ltb, leb}
 use lib.ListN.{length, getD}
-use borrow.Author.Tests.{ltb-true, leb-true, eqb-true}
+use borrow.Author.Tests.{ltb-true, leb-true, eqb-true, lt-ltb, eq-eqb, le-leb}
 use Rattle.meaning.specs.Lists.{allBelow, count}
 use Rattle.meaning.specs.Model.{Model, body, region, shell, face, loop, fin, edge, vertex, Limits}
 use Rattle.meaning.specs.Edits.{toleranceOk}
 use Rattle.meaning.specs.Formed.{tableTests, tablesOk, Readable, hasAll, hasMaybe, idTests, idsOk, StoredIds, bit, Listed, listedOk, regionOf, shellOf, loopOf, finOf, faceOf, finOn, loopOk, WellFormed, wiresOk, formedTests, wellFormed}
-use Rattle.lists.specs.Tests.{every-at, allBelow-at}
-use Rattle.lists.specs.Lists.{all-at}
+use Rattle.lists.specs.Tests.{every-at, allBelow-at, every-cons, every-none, allBelow-all}
+use Rattle.lists.specs.Lists.{all-at, all-counted}
 
 wires-once : (l : List ℕ) (c : ℕ) → wiresOk l ≡ true → count c l ≤ 1
 wires-once l c h =
@@ -111,3 +111,30 @@ module _ (x : Limits) (m : Model) where
         closes = λ l h. allBelow-at (λ l. loopOk m (loop m l .fins)) (m .loops .used) l (t 8) h;
         wires = λ s e h. wires-once (shell m s .wireEdges) e (allBelow-at (λ s. wiresOk (shell m s .wireEdges)) (m .shells .used) s (t 9) h);
       }
+
+-- ---- and the facts make the test pass
+
+below : (f : ℕ → ℕ) (limit n : ℕ) → ((i : ℕ) → i < n → f i ≤ limit) → allBelow (λ i. leb (f i) limit) n ≡ true
+below f limit n h = allBelow-all (λ i. leb (f i) limit) n (λ i q. le-leb (f i) limit (h i q))
+
+names : (f : ℕ → ℕ) (limit n : ℕ) → ((i : ℕ) → i < n → f i < limit) → allBelow (λ i. ltb (f i) limit) n ≡ true
+names f limit n h = allBelow-all (λ i. ltb (f i) limit) n (λ i q. lt-ltb (f i) limit (h i q))
+
+once-listed : (n k : ℕ) (list : ℕ → List ℕ) (named-by : ℕ → ℕ → Bool) → Listed n k list named-by → listedOk n k list named-by ≡ true
+unfolding listedOk
+once-listed n k list named-by s =
+    allBelow-all (λ p. allBelow (λ c. eqb (count c (list p)) (bit (named-by c p))) k) n
+    (λ p hp. allBelow-all (λ c. eqb (count c (list p)) (bit (named-by c p))) k (λ c hc. eq-eqb (count c (list p)) (bit (named-by c p)) (s .once p c hp hc)))
+
+module _ (x : Limits) (m : Model) where
+  pub readable-passes : Readable x m → tablesOk x m ≡ true
+  unfolding tablesOk
+  readable-passes r = every-cons _ _ (le-leb (m .bodies .used) (x .bodies) (r .bodies)) (every-cons _ _ (le-leb (m .regions .used) (x .regions) (r .regions)) (every-cons _ _ (le-leb (m .shells .used) (x .shells) (r .shells)) (every-cons _ _ (le-leb (m .faces .used) (x .faces) (r .faces)) (every-cons _ _ (le-leb (m .loops .used) (x .loops) (r .loops)) (every-cons _ _ (le-leb (m .fins .used) (x .fins) (r .fins)) (every-cons _ _ (le-leb (m .edges .used) (x .edges) (r .edges)) (every-cons _ _ (le-leb (m .vertices .used) (x .vertices) (r .vertices)) (every-cons _ _ (le-leb (m .curves .used) (x .curves) (r .curves)) (every-cons _ _ (le-leb (m .surfaces .used) (x .surfaces) (r .surfaces)) (every-cons _ _ (below (λ i. length (body m i .regions)) (x .bodyRegions) (m .bodies .used) (r .body-regions)) (every-cons _ _ (below (λ i. length (region m i .shells)) (x .regionShells) (m .regions .used) (r .region-shells)) (every-cons _ _ (below (λ i. length (shell m i .faces)) (x .shellFaces) (m .shells .used) (r .shell-faces)) (every-cons _ _ (below (λ i. length (shell m i .wireEdges)) (x .shellWireEdges) (m .shells .used) (r .shell-wire-edges)) (every-cons _ _ (below (λ i. length (shell m i .acornVertices)) (x .shellAcornVertices) (m .shells .used) (r .shell-acorn-vertices)) (every-cons _ _ (below (λ i. length (face m i .loops)) (x .faceLoops) (m .faces .used) (r .face-loops)) (every-cons _ _ (below (λ i. length (loop m i .fins)) (x .loopFins) (m .loops .used) (r .loop-fins)) (every-cons _ _ (below (λ i. length (edge m i .fins)) (x .edgeFins) (m .edges .used) (r .edge-fins)) (every-cons _ _ (r .precision) (every-cons _ _ (allBelow-all (λ i. toleranceOk (edge m i .tolerance)) (m .edges .used) (r .edge-tolerance)) (every-cons _ _ (allBelow-all (λ i. toleranceOk (vertex m i .tolerance)) (m .vertices .used) (r .vertex-tolerance)) (every-none)))))))))))))))))))))
+
+  pub stored-ids-pass : StoredIds m → idsOk m ≡ true
+  unfolding idsOk
+  stored-ids-pass r = every-cons _ _ (allBelow-all (λ i. hasAll (m .regions) (body m i .regions)) (m .bodies .used) (r .body-regions)) (every-cons _ _ (names (λ i. region m i .body) (m .bodies .used) (m .regions .used) (r .region-body)) (every-cons _ _ (allBelow-all (λ i. hasAll (m .shells) (region m i .shells)) (m .regions .used) (r .region-shells)) (every-cons _ _ (names (λ i. shell m i .region) (m .regions .used) (m .shells .used) (r .shell-region)) (every-cons _ _ (allBelow-all (λ i. hasAll (m .faces) (shell m i .faces)) (m .shells .used) (r .shell-faces)) (every-cons _ _ (allBelow-all (λ i. hasAll (m .edges) (shell m i .wireEdges)) (m .shells .used) (r .shell-wire-edges)) (every-cons _ _ (allBelow-all (λ i. hasAll (m .vertices) (shell m i .acornVertices)) (m .shells .used) (r .shell-acorn-vertices)) (every-cons _ _ (allBelow-all (λ i. hasMaybe (m .shells) (face m i .front)) (m .faces .used) (r .face-front)) (every-cons _ _ (allBelow-all (λ i. hasMaybe (m .shells) (face m i .back)) (m .faces .used) (r .face-back)) (every-cons _ _ (allBelow-all (λ i. hasAll (m .loops) (face m i .loops)) (m .faces .used) (r .face-loops)) (every-cons _ _ (allBelow-all (λ i. hasMaybe (m .surfaces) (face m i .surface)) (m .faces .used) (r .face-surface)) (every-cons _ _ (names (λ i. loop m i .face) (m .faces .used) (m .loops .used) (r .loop-face)) (every-cons _ _ (allBelow-all (λ i. hasAll (m .fins) (loop m i .fins)) (m .loops .used) (r .loop-fins)) (every-cons _ _ (names (λ i. fin m i .owner) (m .loops .used) (m .fins .used) (r .fin-owner)) (every-cons _ _ (names (λ i. fin m i .edge) (m .edges .used) (m .fins .used) (r .fin-edge)) (every-cons _ _ (allBelow-all (λ i. hasAll (m .fins) (edge m i .fins)) (m .edges .used) (r .edge-fins)) (every-cons _ _ (allBelow-all (λ i. hasMaybe (m .vertices) (edge m i .start)) (m .edges .used) (r .edge-start)) (every-cons _ _ (allBelow-all (λ i. hasMaybe (m .vertices) (edge m i .end)) (m .edges .used) (r .edge-end)) (every-cons _ _ (allBelow-all (λ i. hasMaybe (m .curves) (edge m i .curve)) (m .edges .used) (r .edge-curve)) (every-none)))))))))))))))))))
+
+  pub facts-pass : WellFormed x m → wellFormed x m ≡ true
+  unfolding wellFormed
+  facts-pass w = every-cons _ _ (readable-passes (w .tables)) (every-cons _ _ (stored-ids-pass (w .ids)) (every-cons _ _ (once-listed (m .bodies .used) (m .regions .used) (λ b. body m b .regions) (regionOf m) (w .regions)) (every-cons _ _ (once-listed (m .regions .used) (m .shells .used) (λ r. region m r .shells) (shellOf m) (w .shells)) (every-cons _ _ (once-listed (m .faces .used) (m .loops .used) (λ f. face m f .loops) (loopOf m) (w .loops)) (every-cons _ _ (once-listed (m .loops .used) (m .fins .used) (λ l. loop m l .fins) (finOf m) (w .fins)) (every-cons _ _ (once-listed (m .shells .used) (m .faces .used) (λ s. shell m s .faces) (faceOf m) (w .faces)) (every-cons _ _ (once-listed (m .edges .used) (m .fins .used) (λ e. edge m e .fins) (finOn m) (w .edges)) (every-cons _ _ (allBelow-all (λ l. loopOk m (loop m l .fins)) (m .loops .used) (w .closes)) (every-cons _ _ (allBelow-all (λ s. wiresOk (shell m s .wireEdges)) (m .shells .used) (λ s h. all-counted (λ e. leb (count e (shell m s .wireEdges)) 1) (shell m s .wireEdges) (λ e q. le-leb (count e (shell m s .wireEdges)) 1 (w .wires s e h)))) (every-none))))))))))

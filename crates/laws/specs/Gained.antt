@@ -11,7 +11,7 @@ use lib.ListN.{length}
 use lib.Ieee.{Float}
 use borrow.Author.Tests.{ltb-true, eqb-true, eqb-false, lt-ltb, ne-eqb, eq-eqb, not-true}
 use Rattle.meaning.specs.Lists.{all, member, count, joined, listed, same}
-use Rattle.meaning.specs.Model.{Sense, positive, negative, Edge, Model, changed, shell, face, loop, fin, edge, vertex, Limits}
+use Rattle.meaning.specs.Model.{Sense, positive, negative, Edge, Model, changed, shell, face, loop, fin, edge, Limits}
 use Rattle.meaning.specs.Refuse.{given}
 use Rattle.meaning.specs.Walks.{shellsOf, faceWalk, faceEdges, edgeWalk, edgeVertices, vertexWalk}
 use Rattle.meaning.specs.Split.{splitRefusal, EdgeSplit, splitLineEdge, newFin, beside, withNew, firstHalf, secondHalf, afterSplit, modelAfter, Cut, afterAll}
@@ -19,7 +19,7 @@ use Rattle.meaning.specs.Faults.{counts}
 use Rattle.meaning.specs.Formed.{bit, WellFormed, hasEdge}
 use Rattle.laws.specs.Terms.{Walked, OneMore, SameWalks, eulerNumber}
 use Rattle.lists.specs.Tests.{and-both, or-first, both-ways}
-use Rattle.lists.specs.Lists.{count-above, member-counted, count-present, member-append, member-one, all-at, all-counted, joined-same, count-firsts, member-firsts, count-once, length-more}
+use Rattle.lists.specs.Lists.{count-cons, count-append, count-above, member-counted, count-present, member-append, member-one, all-at, all-counted, joined-cons, joined-append, joined-same, count-firsts, member-firsts, count-once, length-more}
 use Rattle.laws.specs.Clean.{own}
 use Rattle.laws.specs.Kept.{fin-was, edge-fresh, edge-first, edge-other, in-fins, not-in-fins, fin-at-new, accepted, went-to, bodies-kept, split-keeps}
 use Rattle.laws.specs.Refusals.{answered-given, given-value}
@@ -118,6 +118,34 @@ module _ (x : Limits) (m : Model) (w : WellFormed x m) (e : ℕ) (t : Float) (he
       by : (b : Bool) → eqb y e ≡ b → y < m .edges .used → Doubled e (m .edges .used) W R → Doubled e (m .edges .used) (y ∷ W) (cond b (e ∷ m .edges .used ∷ []) (y ∷ []) ++ R)
       by true q h d = rw (eqb-true y e q) (after d)
       by false q h d = other (eqb-false y e q) (λ z. omega arith) d
+
+  -- a list without the edge stays
+  wires-same : (W : List ℕ) → count e W ≡ 0 → joined (λ y. cond (eqb y e) (e ∷ m .edges .used ∷ []) (y ∷ [])) W ≡ W
+  unfolding joined count
+  wires-same [] h = refl
+  wires-same (y ∷ W) h = by (eqb y e) refl (eqb e y) refl h (wires-same W)
+    where
+      by : (b : Bool) → eqb y e ≡ b → (c : Bool) → eqb e y ≡ c → cond c (suc (count e W)) (count e W) ≡ 0 → (count e W ≡ 0 → joined (λ y. cond (eqb y e) (e ∷ m .edges .used ∷ []) (y ∷ [])) W ≡ W)
+          → cond b (e ∷ m .edges .used ∷ []) (y ∷ []) ++ joined (λ y. cond (eqb y e) (e ∷ m .edges .used ∷ []) (y ∷ [])) W ≡ (y ∷ W)
+      by true q true r z f = absurd (omega arith)
+      by true q false r z f = absurd (eqb-false e y r (sym (eqb-true y e q)))
+      by false q true r z f = absurd (omega arith)
+      by false q false r z f = rw (f z)
+
+  -- the new wire edge stands after the old one
+  pub wire-after : (s : ℕ) → s < m .shells .used → (k l : List ℕ) → shell m s .wireEdges ≡ k ++ (e ∷ l) → shell (afterSplit m e t) s .wireEdges ≡ k ++ (e ∷ m .edges .used ∷ l)
+  unfolding afterSplit changed
+  wire-after s hs k l q =
+      let once : count e (k ++ (e ∷ l)) ≤ 1 = rw (← q) (w .wires s e hs) in
+      let sum : count e (k ++ (e ∷ l)) ≡ count e k + (1 + count e l) = count-append e k (e ∷ l) ∙ ap (λ n. count e k + n) (count-cons e e l ∙ rw (eq-eqb e e refl)) in
+      rw (
+        q,
+        joined-append (λ y. cond (eqb y e) (e ∷ m .edges .used ∷ []) (y ∷ [])) k (e ∷ l),
+        joined-cons (λ y. cond (eqb y e) (e ∷ m .edges .used ∷ []) (y ∷ [])) e l,
+        wires-same k (omega arith),
+        wires-same l (omega arith),
+        eq-eqb e e refl,
+      )
 
   -- ---- the walks of a body
 
@@ -355,6 +383,13 @@ pub split-adds-one : (x : Limits) (m : Model) (e : ℕ) (t : Float) (s : EdgeSpl
 split-adds-one x m e t s w a b hb q =
     subst (λ r. OneMore m (modelAfter x m e t) b (r .newEdge) (r .vertex)) (given-value (splitRefusal x m e t) (record { originalEdge = e; newEdge = m .edges .used; vertex = m .vertices .used }) s a)
     (one-more x m w e t (answered-given (splitRefusal x m e t) _ _ a) b hb q)
+
+pub new-wire-after : (x : Limits) (m : Model) (e : ℕ) (t : Float) (r : EdgeSplit) → WellFormed x m → splitLineEdge x m e t ≡ given r → (s : ℕ) → s < m .shells .used
+    → (k l : List ℕ) → shell m s .wireEdges ≡ k ++ (e ∷ l) → shell (modelAfter x m e t) s .wireEdges ≡ k ++ (e ∷ r .newEdge ∷ l)
+new-wire-after x m e t r w a s hs k l q =
+    let h : splitRefusal x m e t ≡ 0 = answered-given (splitRefusal x m e t) _ _ a in
+    subst (λ i. shell (modelAfter x m e t) s .wireEdges ≡ k ++ (e ∷ i .newEdge ∷ l)) (given-value (splitRefusal x m e t) (record { originalEdge = e; newEdge = m .edges .used; vertex = m .vertices .used }) r a)
+    (rw (went-to x m e t 0 h) (wire-after x m w e t (accepted x m e t h .0) s hs k l q))
 
 pub split-leaves-others : (x : Limits) (m : Model) (e : ℕ) (t : Float) (s : EdgeSplit) → WellFormed x m → splitLineEdge x m e t ≡ given s → (b : ℕ) → b < m .bodies .used
     → hasEdge m b e ≡ false → SameWalks m (modelAfter x m e t) b

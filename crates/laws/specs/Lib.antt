@@ -12,3 +12,4 @@ pub mod Walked
 pub mod Gained
 pub mod Report
 pub mod Statements
+pub mod Shut

@@ -17,7 +17,7 @@ use Rattle.store.specs.declared.Found.{Found}
 use Rattle.store.specs.declared.Found.the-variants.{There, Missing}
 use Rattle.store.specs.Queries.{lineRefusal, planeRefusal, thePlane}
 use Rattle.meaning.specs.Lists.{count, joined, the, isSome}
-use Rattle.meaning.specs.Model.{Model, has, face, loop, fin, edge, vertex, surface, Limits}
+use Rattle.meaning.specs.Model.{Model, has, face, loop, fin, edge, surface, Limits}
 use Rattle.meaning.specs.Refuse.{refused, given, answered, _if_, firstRefusal, firstOf}
 use Rattle.meaning.specs.Split.{isPositive, lo, hi, parameter, test3, test7, test8, test9, test10, within, onPlane, test11-fin, test11-fins, test12, test13, splitTests, splitRefusal, EdgeSplit, splitLineEdge, afterSplit, whereAccepted, modelAfter}
 use Rattle.lists.specs.Tests.{then-zero, then-assoc, none-refused}

@@ -3,24 +3,29 @@ use Prim.Native.Nat.{ℕ, suc, _<_}
 use mathlib.Core.Logic.{_↔_}
 use mathlib.Core.Path.{_≡_}
 use mathlib.Core.Bool.{true, false}
-use mathlib.Core.List.{List, []}
+use mathlib.Core.List.{List, [], _∷_, _++_}
 use lib.ListN.{getD}
 use lib.Ieee.{Float}
-use Rattle.meaning.specs.Model.{Model, vertex, Limits}
+use Rattle.meaning.specs.Model.{Model, shell, Limits}
 use Rattle.meaning.specs.Refuse.{refused, given}
 use Rattle.meaning.specs.Split.{splitRefusal, EdgeSplit, splitLineEdge, modelAfter, Cut, afterAll}
-use Rattle.meaning.specs.Formed.{WellFormed, topologicalReport, emptyReport, hasEdge}
+use Rattle.meaning.specs.Formed.{WellFormed, wellFormed, topologicalReport, emptyReport, hasEdge}
 use Rattle.laws.specs.Terms.{splitEdges, Restored, Walked, OneMore, SameWalks, eulerNumber}
+use Rattle.laws.specs.Decided.{decided, facts-pass}
 use Rattle.laws.specs.Kept.{splits-keep}
 use Rattle.laws.specs.Rows.{splitRows, Passes, RefusedAt}
 use Rattle.laws.specs.Refusals.{refused-where, accepted-where, accepted-only, one-row, answered-given, row-of-answer, refused-keeps}
 use Rattle.laws.specs.Struck.{splits-restore}
-use Rattle.laws.specs.Gained.{walked, split-adds-one, split-leaves-others, euler-kept}
+use Rattle.laws.specs.Gained.{walked, split-adds-one, new-wire-after, split-leaves-others, euler-kept}
 use Rattle.laws.specs.Report.{reports-kept}
 
 -- 1. "After any sequence of splits, accepted or refused, it is still well formed"
 pub stays-well-formed : (x : Limits) (m : Model) (l : List Cut) → WellFormed x m → WellFormed x (afterAll x m l)
 stays-well-formed = splits-keep
+
+-- (well formed as facts and as a test that computes are one)
+pub well-formed-is-tested : (x : Limits) (m : Model) → (wellFormed x m ≡ true) ↔ WellFormed x m
+well-formed-is-tested x m = (decided x m, facts-pass x m)
 
 -- 2. "and a body whose topological report was empty keeps an empty one"
 pub empty-report-stays : (x : Limits) (m : Model) (l : List Cut) → WellFormed x m → (b : ℕ) → b < m .bodies .used
@@ -48,6 +53,11 @@ euler-number-stays = euler-kept
 -- the end of a split edge (`Restored`: Terms.antt)
 pub gives-back : (x : Limits) (m : Model) (l : List Cut) → WellFormed x m → Restored m (afterAll x m l) (splitEdges x m l)
 gives-back = splits-restore
+
+-- and what was added to a list of wire edges stands right after the old edge (of a new fin 1 tells: every fin ends where the next starts)
+pub wire-edge-follows : (x : Limits) (m : Model) (e : ℕ) (t : Float) (r : EdgeSplit) → WellFormed x m → splitLineEdge x m e t ≡ given r → (s : ℕ) → s < m .shells .used
+    → (k l : List ℕ) → shell m s .wireEdges ≡ k ++ (e ∷ l) → shell (modelAfter x m e t) s .wireEdges ≡ k ++ (e ∷ r .newEdge ∷ l)
+wire-edge-follows = new-wire-after
 
 -- 5. "Each refusal comes exactly where its row in 01 says": the number is n exactly if, at some row, the rows before it pass and its condition for n
 -- holds (`RefusedAt`, over 01's rows: Rows.antt); that row is one; and a split is accepted exactly if all rows pass

@@ -4,14 +4,14 @@ use native.Mathlib.Omega.{arith}
 use native.Mathlib.Decide.{decLt}
 use native.Mathlib.Nat.{zero-add}
 use mathlib.Core.Path.{_≡_, refl, sym, ap, _∙_, subst}
-use mathlib.Core.Bool.{Bool, true, false, cond, _||_, false≢true, or-true}
+use mathlib.Core.Bool.{Bool, true, false, cond, _&&_, _||_, false≢true, or-true}
 use mathlib.Core.List.{List, [], _∷_, _++_, map, append-assoc, append-nil}
 use lib.Dec.{eqb, ltb, leb}
 use lib.ListN.{length, getD, length-append}
 use borrow.Author.Tests.{ltb-true, leb-true, eqb-true, eqb-false, lt-ltb, ne-eqb, eq-eqb}
 use Rattle.meaning.specs.Lists.{run, all, member, count, countIf, place, joined, meet, meets, firsts, same}
 use Rattle.meaning.specs.Formed.{bit}
-use Rattle.lists.specs.Tests.{and-both, or-false, or-none, or-first}
+use Rattle.lists.specs.Tests.{and-both, and-true, and-assoc, or-false, or-none, or-first}
 
 -- ---- count
 
@@ -159,9 +159,20 @@ member-append c (y ∷ k) l = rw (member-append c k l) (go (eqb c y))
     go true = refl
     go false = refl
 
+pub member-none : (x : ℕ) → member x [] ≡ false
+unfolding member
+member-none x = refl
+
+pub member-cons : (x y : ℕ) (l : List ℕ) → member x (y ∷ l) ≡ (eqb x y || member x l)
+unfolding member
+member-cons x y l = refl
+
 pub member-one : (x y : ℕ) → member x (y ∷ []) ≡ eqb x y
 unfolding member
 member-one x y = or-false (eqb x y)
+
+pub member-snoc : (x : ℕ) (l : List ℕ) (y : ℕ) → member x (l ++ (y ∷ [])) ≡ (member x l || eqb x y)
+member-snoc x l y = member-append x l (y ∷ []) ∙ ap (λ b. member x l || b) (member-one x y)
 
 -- of two lists, neither has it
 pub member-front-none : (c : ℕ) (k l : List ℕ) → member c (k ++ l) ≡ false → member c k ≡ false
@@ -175,6 +186,23 @@ pub member-front : (c : ℕ) (k l : List ℕ) → member c (k ++ l) ≡ true →
 member-front c k l h q = or-first (member c k) (member c l) (sym (member-append c k l) ∙ h) q
 
 -- ---- all
+
+pub all-none : (p : ℕ → Bool) → all p [] ≡ true
+unfolding all
+all-none p = refl
+
+pub all-cons : (p : ℕ → Bool) (y : ℕ) (l : List ℕ) → all p (y ∷ l) ≡ (p y && all p l)
+unfolding all
+all-cons p y l = refl
+
+pub all-both : (p : ℕ → Bool) (k l : List ℕ) → all p (k ++ l) ≡ (all p k && all p l)
+unfolding all
+all-both p [] l = refl
+all-both p (y ∷ k) l = rw (all-both p k l) (sym (and-assoc (p y) (all p k) (all p l)))
+
+pub all-snoc : (p : ℕ → Bool) (l : List ℕ) (y : ℕ) → all p (l ++ (y ∷ [])) ≡ (all p l && p y)
+unfolding all
+all-snoc p l y = all-both p l (y ∷ []) ∙ ap (λ b. all p l && b) (and-true (p y))
 
 -- a test that holds of all entries holds of one
 pub all-at : (p : ℕ → Bool) (l : List ℕ) (c : ℕ) → all p l ≡ true → 1 ≤ count c l → p c ≡ true
@@ -281,6 +309,15 @@ count-run-in u (suc n) c h k =
 
 -- ---- countIf
 
+pub countIf-append : (p : ℕ → Bool) (k l : List ℕ) → countIf p (k ++ l) ≡ countIf p k + countIf p l
+unfolding countIf
+countIf-append p [] l = sym (zero-add _)
+countIf-append p (y ∷ k) l = go (p y) (countIf p (k ++ l)) (countIf p k) (countIf p l) (countIf-append p k l)
+  where
+    go : (b : Bool) (i j r : ℕ) → i ≡ j + r → cond b (suc i) i ≡ cond b (suc j) j + r
+    go true i j r h = omega arith
+    go false i j r h = h
+
 pub countIf-cons : (p : ℕ → Bool) (y : ℕ) (l : List ℕ) → countIf p (y ∷ l) ≡ cond (p y) 1 0 + countIf p l
 unfolding countIf
 countIf-cons p y l = go (p y) (countIf p l)
@@ -347,6 +384,19 @@ bound-of key h limit l (y ∷ a) b k = go (eqb (key y) l) (λ q. eqb-true (key y
 -- ---- joined
 
 module _ {A : Type 0} where
+  pub joined-none : (f : ℕ → List A) → joined f [] ≡ []
+  unfolding joined
+  joined-none f = refl
+
+  pub joined-cons : (f : ℕ → List A) (y : ℕ) (l : List ℕ) → joined f (y ∷ l) ≡ f y ++ joined f l
+  unfolding joined
+  joined-cons f y l = refl
+
+  pub joined-append : (f : ℕ → List A) (k l : List ℕ) → joined f (k ++ l) ≡ joined f k ++ joined f l
+  unfolding joined
+  joined-append f [] l = refl
+  joined-append f (y ∷ k) l = rw (joined-append f k l) (sym (append-assoc (f y) (joined f k) (joined f l)))
+
   pub joined-snoc : (f : ℕ → List A) (l : List ℕ) (y : ℕ) → joined f (l ++ (y ∷ [])) ≡ joined f l ++ f y
   unfolding joined
   joined-snoc f [] y = append-nil (f y)
@@ -370,6 +420,10 @@ module _ {A : Type 0} where
       rw (h y (both .0), joined-same f g p l h (both .1))
 
 -- ---- meet, meets: each entry at its first meeting
+
+pub meets-none : (s : List ℕ) → meets s [] ≡ s
+unfolding meets
+meets-none s = refl
 
 pub meets-append : (s k l : List ℕ) → meets s (k ++ l) ≡ meets (meets s k) l
 unfolding meets
@@ -431,6 +485,15 @@ pub count-meets : (s l : List ℕ) → ((c : ℕ) → count c s ≤ 1) → (c : 
 unfolding meets
 count-meets s [] once c = once c
 count-meets s (y ∷ l) once c = count-meets (meet s y) l (count-meet s y once) c
+
+pub firsts-none : firsts [] ≡ []
+firsts-none = meets-none []
+
+pub firsts-snoc : (l : List ℕ) (y : ℕ) → firsts (l ++ (y ∷ [])) ≡ meet (firsts l) y
+firsts-snoc l y = meets-snoc [] l y
+
+pub firsts-append : (k l : List ℕ) → firsts (k ++ l) ≡ meets (firsts k) l
+firsts-append k l = meets-append [] k l
 
 pub count-firsts : (l : List ℕ) (c : ℕ) → count c (firsts l) ≤ 1
 count-firsts l = count-meets [] l (λ c. unfold count in omega arith)

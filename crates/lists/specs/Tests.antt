@@ -29,6 +29,18 @@ pub opened : (a b x : Bool) → a ≡ true → x ≡ b → x ≡ (a && b)
 opened true b x e f = f
 opened false b x e f = absurd (false≢true e)
 
+pub and-true : (a : Bool) → (a && true) ≡ a
+and-true true = refl
+and-true false = refl
+
+pub and-false : (a : Bool) → (a && false) ≡ false
+and-false true = refl
+and-false false = refl
+
+pub and-assoc : (a b c : Bool) → ((a && b) && c) ≡ (a && (b && c))
+and-assoc true b c = refl
+and-assoc false b c = refl
+
 pub or-false : (a : Bool) → (a || false) ≡ a
 or-false true = refl
 or-false false = refl
@@ -58,6 +70,14 @@ every-at [] h k = refl
 every-at (b ∷ l) h zero = and-both b (every l) h .0
 every-at (b ∷ l) h (suc k) = every-at l (and-both b (every l) h .1) k
 
+pub allBelow-none : (p : ℕ → Bool) → allBelow p 0 ≡ true
+unfolding allBelow
+allBelow-none p = refl
+
+pub allBelow-suc : (p : ℕ → Bool) (n : ℕ) → allBelow p (suc n) ≡ (allBelow p n && p n)
+unfolding allBelow
+allBelow-suc p n = refl
+
 pub allBelow-at : (p : ℕ → Bool) (n k : ℕ) → allBelow p n ≡ true → k < n → p k ≡ true
 unfolding allBelow
 allBelow-at p zero k e h = absurd (omega arith)
@@ -68,15 +88,24 @@ allBelow-at p (suc n) k e h =
       | no g ↦ let q : n ≡ k = omega arith in subst (λ j. p j ≡ true) q (both .1)
     ]
 
+-- and the other way: from each to all
+pub every-cons : (b : Bool) (l : List Bool) → b ≡ true → every l ≡ true → every (b ∷ l) ≡ true
+unfolding every
+every-cons b l h k = rw (h, k)
+
+pub every-none : every [] ≡ true
+unfolding every
+every-none = refl
+
+pub allBelow-all : (p : ℕ → Bool) (n : ℕ) → ((k : ℕ) → k < n → p k ≡ true) → allBelow p n ≡ true
+unfolding allBelow
+allBelow-all p zero h = refl
+allBelow-all p (suc n) h = rw (allBelow-all p n (λ k q. h k (omega arith)), h n (omega arith))
+
 pub allBelow-of : (p : ℕ → Bool) (n : ℕ) → ((k : ℕ) → k < n → p k ≡ true) → allBelow p n ≡ true
 unfolding allBelow
 allBelow-of p zero h = refl
 allBelow-of p (suc n) h = rw (allBelow-of p n (λ k l. h k (omega arith)), h n (omega arith))
-
--- a test below 0, and below i + 1
-pub allBelow-none : (p : ℕ → Bool) → allBelow p 0 ≡ true
-unfolding allBelow
-allBelow-none p = refl
 
 pub allBelow-more : (p : ℕ → Bool) (i : ℕ) → allBelow p (i + 1) ≡ (allBelow p i && p i)
 unfolding allBelow
@@ -128,6 +157,15 @@ unfolding firstRefusal
 none-refused [] h k = refl
 none-refused (n ∷ l) h zero = then-zero n (firstRefusal l) h .0
 none-refused (n ∷ l) h (suc k) = none-refused l (then-zero n (firstRefusal l) h .1) k
+
+pub firstOf-none : (f : ℕ → ℕ) → firstOf f [] ≡ 0
+unfolding firstOf
+firstOf-none f = refl
+
+pub firstOf-append : (f : ℕ → ℕ) (k l : List ℕ) → firstOf f (k ++ l) ≡ (firstOf f k then firstOf f l)
+unfolding firstOf
+firstOf-append f [] l = refl
+firstOf-append f (y ∷ k) l = rw (firstOf-append f k l) (sym (then-assoc (f y) (firstOf f k) (firstOf f l)))
 
 pub firstOf-snoc : (f : ℕ → ℕ) (l : List ℕ) (y : ℕ) → firstOf f (l ++ (y ∷ [])) ≡ (firstOf f l then f y)
 unfolding firstOf
