@@ -20,8 +20,9 @@ use Rattle.meaning.specs.Formed.{bit, WellFormed, hasEdge}
 use Rattle.laws.specs.Terms.{Walked, OneMore, SameWalks, eulerNumber}
 use Rattle.lists.specs.Tests.{and-both, or-first, both-ways}
 use Rattle.lists.specs.Lists.{count-cons, count-append, count-above, member-counted, count-present, member-append, member-one, all-at, all-counted, joined-cons, joined-append, joined-same, count-firsts, member-firsts, count-once, length-more}
+use Rattle.laws.specs.After.{withNewEdge, fin-was, fin-at-new, edge-first, edge-other, edge-fresh, accepted, went-to, bodies-kept}
 use Rattle.laws.specs.Clean.{own}
-use Rattle.laws.specs.Kept.{fin-was, edge-fresh, edge-first, edge-other, in-fins, not-in-fins, fin-at-new, accepted, went-to, bodies-kept, split-keeps}
+use Rattle.laws.specs.Kept.{in-fins, not-in-fins, split-keeps}
 use Rattle.laws.specs.Refusals.{answered-given, given-value}
 use Rattle.laws.specs.Doubled.{Doubled, ended, other, after, before, doubled-append, doubled-joined, doubled-mapped, member-without, without-none, length-without, Beside, firsts-doubled}
 use Rattle.laws.specs.Walked.{shells-there, faces-there, edges-there, vertices-there, faces-given, edges-given, vertices-given, has-edge}
@@ -82,11 +83,11 @@ module _ (x : Limits) (m : Model) (w : WellFormed x m) (e : ℕ) (t : Float) (he
           let on : fin m f .edge ≡ e = eqb-true (fin m f .edge) e q in
           let mem : member f (edge m e .fins) ≡ true = in-fins x m w e t he f h on in
           rw (mem, eq-eqb (fin m f .owner) l o, on)
-          (halves-doubled (fin m f .sense) f (newFin m e f) (ap (λ r. r .edge) (fin-was x m w e t f h) ∙ on) (ap (λ r. r .edge) (fin-at-new x m w e t he f mem)))
+          (halves-doubled (fin m f .sense) f (newFin m e f) (ap (λ r. r .edge) (fin-was m e t f h) ∙ on) (ap (λ r. r .edge) (fin-at-new m e t f mem)))
       by false q =
           let off : fin m f .edge ≡ e → ⊥ = eqb-false (fin m f .edge) e q in
           let old : fin m f .edge < m .edges .used = w .ids .fin-edge f h in
-          rw (not-in-fins x m w e t he f h off, fin-was x m w e t f h) (other off (λ z. omega arith) ended)
+          rw (not-in-fins x m w e t he f h off, fin-was m e t f h) (other off (λ z. omega arith) ended)
 
   loop-doubled : (l : ℕ) (L : List ℕ) → all (λ f. ltb f (m .fins .used) && eqb (fin m f .owner) l) L ≡ true
       → Doubled e (m .edges .used) (map (λ i. fin m i .edge) L) (map (λ i. fin (afterSplit m e t) i .edge) (joined (withNew m e l) L))
@@ -104,7 +105,7 @@ module _ (x : Limits) (m : Model) (w : WellFormed x m) (e : ℕ) (t : Float) (he
       doubled-mapped e (m .edges .used) (λ i. fin m i .edge) (λ i. fin (afterSplit m e t) i .edge) (λ l. loop m l .fins) (λ l. joined (withNew m e l) (loop m l .fins)) (λ l. ltb l (m .loops .used)) (face m f .loops)
       (λ l q. loop-doubled l (loop m l .fins) (own x m w l (ltb-true l (m .loops .used) q))) (w .ids .face-loops f (ltb-true f (m .faces .used) h))
 
-  wires-doubled : (W : List ℕ) → all (λ y. ltb y (m .edges .used)) W ≡ true → Doubled e (m .edges .used) W (joined (λ y. cond (eqb y e) (e ∷ m .edges .used ∷ []) (y ∷ [])) W)
+  wires-doubled : (W : List ℕ) → all (λ y. ltb y (m .edges .used)) W ≡ true → Doubled e (m .edges .used) W (joined (withNewEdge m e) W)
   unfolding joined all
   wires-doubled [] a = ended
   wires-doubled (y ∷ W) a =
@@ -113,20 +114,20 @@ module _ (x : Limits) (m : Model) (w : WellFormed x m) (e : ℕ) (t : Float) (he
       by (eqb y e) refl old (wires-doubled W (both .1))
     where
       R : List ℕ
-      R = joined (λ y. cond (eqb y e) (e ∷ m .edges .used ∷ []) (y ∷ [])) W
+      R = joined (withNewEdge m e) W
 
       by : (b : Bool) → eqb y e ≡ b → y < m .edges .used → Doubled e (m .edges .used) W R → Doubled e (m .edges .used) (y ∷ W) (cond b (e ∷ m .edges .used ∷ []) (y ∷ []) ++ R)
       by true q h d = rw (eqb-true y e q) (after d)
       by false q h d = other (eqb-false y e q) (λ z. omega arith) d
 
   -- a list without the edge stays
-  wires-same : (W : List ℕ) → count e W ≡ 0 → joined (λ y. cond (eqb y e) (e ∷ m .edges .used ∷ []) (y ∷ [])) W ≡ W
+  wires-same : (W : List ℕ) → count e W ≡ 0 → joined (withNewEdge m e) W ≡ W
   unfolding joined count
   wires-same [] h = refl
   wires-same (y ∷ W) h = by (eqb y e) refl (eqb e y) refl h (wires-same W)
     where
-      by : (b : Bool) → eqb y e ≡ b → (c : Bool) → eqb e y ≡ c → cond c (suc (count e W)) (count e W) ≡ 0 → (count e W ≡ 0 → joined (λ y. cond (eqb y e) (e ∷ m .edges .used ∷ []) (y ∷ [])) W ≡ W)
-          → cond b (e ∷ m .edges .used ∷ []) (y ∷ []) ++ joined (λ y. cond (eqb y e) (e ∷ m .edges .used ∷ []) (y ∷ [])) W ≡ (y ∷ W)
+      by : (b : Bool) → eqb y e ≡ b → (c : Bool) → eqb e y ≡ c → cond c (suc (count e W)) (count e W) ≡ 0 → (count e W ≡ 0 → joined (withNewEdge m e) W ≡ W)
+          → cond b (e ∷ m .edges .used ∷ []) (y ∷ []) ++ joined (withNewEdge m e) W ≡ (y ∷ W)
       by true q true r z f = absurd (omega arith)
       by true q false r z f = absurd (eqb-false e y r (sym (eqb-true y e q)))
       by false q true r z f = absurd (omega arith)
@@ -140,8 +141,8 @@ module _ (x : Limits) (m : Model) (w : WellFormed x m) (e : ℕ) (t : Float) (he
       let sum : count e (k ++ (e ∷ l)) ≡ count e k + (1 + count e l) = count-append e k (e ∷ l) ∙ ap (λ n. count e k + n) (count-cons e e l ∙ rw (eq-eqb e e refl)) in
       rw (
         q,
-        joined-append (λ y. cond (eqb y e) (e ∷ m .edges .used ∷ []) (y ∷ [])) k (e ∷ l),
-        joined-cons (λ y. cond (eqb y e) (e ∷ m .edges .used ∷ []) (y ∷ [])) e l,
+        joined-append (withNewEdge m e) k (e ∷ l),
+        joined-cons (withNewEdge m e) e l,
         wires-same k (omega arith),
         wires-same l (omega arith),
         eq-eqb e e refl,
@@ -166,7 +167,7 @@ module _ (x : Limits) (m : Model) (w : WellFormed x m) (e : ℕ) (t : Float) (he
         wires : Doubled e (m .edges .used) (joined (λ s. shell m s .wireEdges) (shellsOf m b)) (joined (λ s. shell (afterSplit m e t) s .wireEdges) (shellsOf (afterSplit m e t) b))
         wires =
             unfold afterSplit changed in
-            doubled-joined e (m .edges .used) (λ s. shell m s .wireEdges) (λ s. joined (λ y. cond (eqb y e) (e ∷ m .edges .used ∷ []) (y ∷ [])) (shell m s .wireEdges)) (λ s. ltb s (m .shells .used)) (shellsOf m b)
+            doubled-joined e (m .edges .used) (λ s. shell m s .wireEdges) (λ s. joined (withNewEdge m e) (shell m s .wireEdges)) (λ s. ltb s (m .shells .used)) (shellsOf m b)
             (λ s h. wires-doubled (shell m s .wireEdges) (w .ids .shell-wire-edges s (ltb-true s (m .shells .used) h))) (shells-there x m w b hb)
 
     -- an edge but the new one is walked as before
@@ -199,7 +200,7 @@ module _ (x : Limits) (m : Model) (w : WellFormed x m) (e : ℕ) (t : Float) (he
       same-ends : (p : ℕ) → (ltb p (m .edges .used) && not (eqb p e)) ≡ true → edgeVertices (edge (afterSplit m e t) p) ≡ edgeVertices (edge m p)
       same-ends p h =
           let both : (ltb p (m .edges .used) ≡ true) × (not (eqb p e) ≡ true) = and-both (ltb p (m .edges .used)) (not (eqb p e)) h in
-          ap edgeVertices (edge-other x m w e t he p (ltb-true p (m .edges .used) (both .0)) (eqb-false p e (not-true (eqb p e) (both .1))))
+          ap edgeVertices (edge-other m e t p (ltb-true p (m .edges .used) (both .0)) (eqb-false p e (not-true (eqb p e) (both .1))))
 
       pub vertex-walk-same : vertexWalk (afterSplit m e t) b ≡ vertexWalk m b
       unfolding vertexWalk
@@ -236,7 +237,7 @@ module _ (x : Limits) (m : Model) (w : WellFormed x m) (e : ℕ) (t : Float) (he
       unfolding After
       new-vertex-met =
           joined-has (m .vertices .used) (λ p. edgeVertices (edge (afterSplit m e t) p)) (edgeWalk (afterSplit m e t) b) e old-there
-          (ap (λ r. member (m .vertices .used) (edgeVertices r)) (edge-first x m w e t he)
+          (ap (λ r. member (m .vertices .used) (edgeVertices r)) (edge-first m e t he)
           ∙ first-half-ends m (edge m e) (m .vertices .used)
           ∙ rw (eq-eqb (m .vertices .used) (m .vertices .used) refl) (or-true (member (m .vertices .used) (listed (edge m e .start)))))
 
@@ -254,10 +255,10 @@ module _ (x : Limits) (m : Model) (w : WellFormed x m) (e : ℕ) (t : Float) (he
           side : (c : Bool) → member v (listed (edge m e .start)) ≡ c → (c || member v (listed (edge m e .end))) ≡ true → member v After ≡ true
           side true q r =
               put e old-there
-              (ap (λ i. member v (edgeVertices i)) (edge-first x m w e t he) ∙ first-half-ends m (edge m e) v ∙ rw q)
+              (ap (λ i. member v (edgeVertices i)) (edge-first m e t he) ∙ first-half-ends m (edge m e) v ∙ rw q)
           side false q r =
               put (m .edges .used) new-there
-              (ap (λ i. member v (edgeVertices i)) (edge-fresh x m w e t (m .edges .used) (omega arith)) ∙ second-half-ends m (edge m e) v ∙ rw r (or-true (eqb v (m .vertices .used))))
+              (ap (λ i. member v (edgeVertices i)) (edge-fresh m e t (m .edges .used) (omega arith)) ∙ second-half-ends m (edge m e) v ∙ rw r (or-true (eqb v (m .vertices .used))))
 
           by : (c : Bool) → eqb (from .0) e ≡ c → member v After ≡ true
           by true q =
@@ -266,7 +267,7 @@ module _ (x : Limits) (m : Model) (w : WellFormed x m) (e : ℕ) (t : Float) (he
           by false q =
               let below : from .0 < m .edges .used = walked-below (from .0) (from .1) in
               put (from .0) (edge-walk-old (from .0) (λ z. omega arith) ∙ from .1)
-              (ap (λ i. member v (edgeVertices i)) (edge-other x m w e t he (from .0) below (eqb-false (from .0) e q)) ∙ from .2)
+              (ap (λ i. member v (edgeVertices i)) (edge-other m e t (from .0) below (eqb-false (from .0) e q)) ∙ from .2)
 
       -- and no vertex but the new one came in
       was-met : (v : ℕ) → (v ≡ m .vertices .used → ⊥) → member v After ≡ true → member v Before ≡ true
@@ -281,19 +282,19 @@ module _ (x : Limits) (m : Model) (w : WellFormed x m) (e : ℕ) (t : Float) (he
 
           by : (c : Bool) → eqb (from .0) (m .edges .used) ≡ c → (d : Bool) → eqb (from .0) e ≡ d → member v Before ≡ true
           by true q d r =
-              let last : edge (afterSplit m e t) (from .0) ≡ secondHalf m (edge m e) = edge-fresh x m w e t (from .0) (omega (arith, eqb-true (from .0) (m .edges .used) q)) in
+              let last : edge (afterSplit m e t) (from .0) ≡ secondHalf m (edge m e) = edge-fresh m e t (from .0) (omega (arith, eqb-true (from .0) (m .edges .used) q)) in
               let at-end : (eqb v (m .vertices .used) || member v (listed (edge m e .end))) ≡ true = sym (second-half-ends m (edge m e) v) ∙ ap (λ i. member v (edgeVertices i)) (sym last) ∙ from .2 in
               let there : member v (listed (edge m e .end)) ≡ true = rw (ne-eqb v (m .vertices .used) old) at at-end in
               put e has-it (whole-ends (edge m e) v ∙ rw there (or-true (member v (listed (edge m e .start)))))
           by false q true r =
               let same : from .0 ≡ e = eqb-true (from .0) e r in
-              let half : edge (afterSplit m e t) (from .0) ≡ firstHalf m (edge m e) = ap (edge (afterSplit m e t)) same ∙ edge-first x m w e t he in
+              let half : edge (afterSplit m e t) (from .0) ≡ firstHalf m (edge m e) = ap (edge (afterSplit m e t)) same ∙ edge-first m e t he in
               let at-start : (member v (listed (edge m e .start)) || eqb v (m .vertices .used)) ≡ true = sym (first-half-ends m (edge m e) v) ∙ ap (λ i. member v (edgeVertices i)) (sym half) ∙ from .2 in
               put e has-it (whole-ends (edge m e) v ∙ rw (or-first (member v (listed (edge m e .start))) (eqb v (m .vertices .used)) at-start (ne-eqb v (m .vertices .used) old)))
           by false q false r =
               let there : member (from .0) (edgeWalk m b) ≡ true = sym (edge-walk-old (from .0) (eqb-false (from .0) (m .edges .used) q)) ∙ from .1 in
               put (from .0) there
-              (ap (λ i. member v (edgeVertices i)) (sym (edge-other x m w e t he (from .0) (walked-below (from .0) there) (eqb-false (from .0) e r))) ∙ from .2)
+              (ap (λ i. member v (edgeVertices i)) (sym (edge-other m e t (from .0) (walked-below (from .0) there) (eqb-false (from .0) e r))) ∙ from .2)
 
       -- every vertex stands in the walk as often as before, and the new one once
       pub vertex-walk-counts : (v : ℕ) → count v (vertexWalk (afterSplit m e t) b) ≡ count v (vertexWalk m b) + bit (eqb v (m .vertices .used))

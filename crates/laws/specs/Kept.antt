@@ -15,11 +15,12 @@ use Rattle.meaning.specs.Lists.{allBelow, all, member, count, countIf, place, j
 use Rattle.meaning.specs.Model.{Sense, positive, negative, Model, extended, changed, shell, loop, fin, edge, vertex, Limits}
 use Rattle.meaning.specs.Edits.{toleranceOk}
 use Rattle.meaning.specs.Walks.{directed, endsOf}
-use Rattle.meaning.specs.Split.{tablesFit, edgeFits, gain, loopsFit, shellsFit, test13, splitTests, splitRefusal, newFin, beside, withNew, firstHalf, secondHalf, finCopy, afterSplit, whereAccepted, modelAfter, Cut, afterAll}
-use Rattle.meaning.specs.Formed.{Readable, belowMaybe, StoredIds, bit, Listed, regionOf, shellOf, loopOf, finOf, faceOf, finOn, loopOk, WellFormed}
-use Rattle.lists.specs.Tests.{and-both, allBelow-at, maybe-weaken, unless-zero, none-refused}
+use Rattle.meaning.specs.Split.{tablesFit, edgeFits, gain, loopsFit, shellsFit, test13, splitRefusal, newFin, beside, withNew, firstHalf, secondHalf, afterSplit, whereAccepted, modelAfter, Cut, afterAll}
+use Rattle.meaning.specs.Formed.{Readable, belowMaybe, StoredIds, bit, Listed, finOf, finOn, loopOk, WellFormed}
+use Rattle.lists.specs.Tests.{and-both, allBelow-at, maybe-weaken, unless-zero}
 use Rattle.lists.specs.Lists.{count-cons, count-append, count-above, member-counted, member-uncounted, member-nth, place-nth, nth-place, place-below, all-weaken, all-joined, all-one, all-two, below-nth, length-run, all-run, count-run-before, count-run-in, double-count, bound-of}
 use Rattle.laws.specs.Loops.{firstStart, Follows, firstStart-append, follows-append, follows-loop, loop-follows}
+use Rattle.laws.specs.After.{withNewEdge, fin-was, fin-fresh, fin-at-new, loop-after, edge-first, edge-other, edge-fresh, edge-was-fins, accepted}
 use Rattle.laws.specs.Clean.{own}
 
 -- a fin with its new fin beside it: how often each stands there
@@ -33,51 +34,7 @@ unfolding count
 beside-new positive f n c q h = rw (ne-eqb c f h, eq-eqb c n q)
 beside-new negative f n c q h = rw (ne-eqb c f h, eq-eqb c n q)
 
--- ---- what a split leaves as it was
-
 module _ (x : Limits) (m : Model) (w : WellFormed x m) (e : ℕ) (t : Float) where
-  pub regions-kept : Listed (m .bodies .used) (m .regions .used) (λ b. afterSplit m e t .bodies .slot b .regions) (regionOf (afterSplit m e t))
-  unfolding afterSplit
-  regions-kept = w .regions
-
-  pub shells-kept : Listed (m .regions .used) (m .shells .used) (λ r. afterSplit m e t .regions .slot r .shells) (shellOf (afterSplit m e t))
-  unfolding afterSplit changed
-  shells-kept = w .shells
-
-  pub loops-kept : Listed (m .faces .used) (m .loops .used) (λ f. afterSplit m e t .faces .slot f .loops) (loopOf (afterSplit m e t))
-  unfolding afterSplit changed
-  loops-kept = w .loops
-
-  pub faces-kept : Listed (m .shells .used) (m .faces .used) (λ s. afterSplit m e t .shells .slot s .faces) (faceOf (afterSplit m e t))
-  unfolding afterSplit changed
-  faces-kept = w .faces
-
-  -- ---- the records of the model after the split
-
-  pub fin-was : (c : ℕ) → c < m .fins .used → fin (afterSplit m e t) c ≡ fin m c
-  unfolding afterSplit extended
-  fin-was c h = rw (lt-ltb c (m .fins .used) h)
-
-  pub fin-fresh : (c : ℕ) → m .fins .used ≤ c → fin (afterSplit m e t) c ≡ finCopy m (getD (edge m e .fins) (c - m .fins .used) 0)
-  unfolding afterSplit extended
-  fin-fresh c h = rw (le-ltb c (m .fins .used) h)
-
-  pub edge-was-fins : (p : ℕ) → p < m .edges .used → edge (afterSplit m e t) p .fins ≡ edge m p .fins
-  unfolding afterSplit extended changed
-  edge-was-fins p h = rw (lt-ltb p (m .edges .used) h) (go (eqb p e))
-    where
-      go : (b : Bool) → cond b (firstHalf m (edge m p)) (edge m p) .fins ≡ edge m p .fins
-      go true = refl
-      go false = refl
-
-  pub edge-fresh : (p : ℕ) → m .edges .used ≤ p → edge (afterSplit m e t) p ≡ secondHalf m (edge m e)
-  unfolding afterSplit extended changed
-  edge-fresh p h = rw (le-ltb p (m .edges .used) h)
-
-  pub loop-after : (l : ℕ) → loop (afterSplit m e t) l .fins ≡ joined (withNew m e l) (loop m l .fins)
-  unfolding afterSplit changed
-  loop-after l = refl
-
   -- ---- an edge lists just the fins that name it: the new edge the new fins, an old edge its old ones
 
   edges-once : (p c : ℕ) → p < m .edges .used + 1 → c < m .fins .used + length (edge m e .fins)
@@ -85,18 +42,18 @@ module _ (x : Limits) (m : Model) (w : WellFormed x m) (e : ℕ) (t : Float) whe
   edges-once p c hp hc =
       elim (decLt p (m .edges .used)) [
         | yes old ↦ elim (decLt c (m .fins .used)) [
-          | yes was ↦ rw (edge-was-fins p old, fin-was c was) (w .edges .once p c old was)
+          | yes was ↦ rw (edge-was-fins m e t p old, fin-was m e t c was) (w .edges .once p c old was)
           | no new ↦
-              rw (edge-was-fins p old, fin-fresh c (omega arith), ne-eqb (m .edges .used) p (λ q. omega arith))
+              rw (edge-was-fins m e t p old, fin-fresh m e t c (omega arith), ne-eqb (m .edges .used) p (λ q. omega arith))
               (count-above (m .fins .used) c (edge m p .fins) (w .ids .edge-fins p old) (omega arith))
         ]
         | no last ↦ elim (decLt c (m .fins .used)) [
           | yes was ↦
               let named : fin m c .edge < m .edges .used = w .ids .fin-edge c was in
-              rw (edge-fresh p (omega arith), fin-was c was, ne-eqb (fin m c .edge) p (λ q. omega arith))
+              rw (edge-fresh m e t p (omega arith), fin-was m e t c was, ne-eqb (fin m c .edge) p (λ q. omega arith))
               (count-run-before (m .fins .used) (length (edge m e .fins)) c was)
           | no new ↦
-              rw (edge-fresh p (omega arith), fin-fresh c (omega arith), eq-eqb (m .edges .used) p (omega arith))
+              rw (edge-fresh m e t p (omega arith), fin-fresh m e t c (omega arith), eq-eqb (m .edges .used) p (omega arith))
               (count-run-in (m .fins .used) (length (edge m e .fins)) c (omega arith) hc)
         ]
       ]
@@ -201,12 +158,12 @@ module _ (x : Limits) (m : Model) (w : WellFormed x m) (e : ℕ) (t : Float) whe
         → count c (loop (afterSplit m e t) l .fins) ≡ bit (eqb (fin (afterSplit m e t) c .owner) l)
     fins-once l c hl hc =
         elim (decLt c (m .fins .used)) [
-          | yes was ↦ rw (loop-after l, joined-old l c (loop m l .fins) was, fin-was c was) (w .fins .once l c hl was)
+          | yes was ↦ rw (loop-after m e t l, joined-old l c (loop m l .fins) was, fin-was m e t c was) (w .fins .once l c hl was)
           | no new ↦
               let k : ℕ = c - m .fins .used in
               let at-k : c ≡ m .fins .used + k = omega arith in
               let in-list : k < length (edge m e .fins) = omega arith in
-              rw (loop-after l, fin-fresh c (omega arith))
+              rw (loop-after m e t l, fin-fresh m e t c (omega arith))
               (ap (λ i. count i (joined (withNew m e l) (loop m l .fins))) at-k
               ∙ joined-new l k (loop m l .fins) (w .ids .loop-fins l hl) in-list
               ∙ ap (λ n. cond (eqb (fin m (getD (edge m e .fins) k 0) .owner) l) n 0) (w .fins .once l (getD (edge m e .fins) k 0) hl (below-nth (m .fins .used) (edge m e .fins) k (w .ids .edge-fins e he) in-list))
@@ -223,14 +180,6 @@ module _ (x : Limits) (m : Model) (w : WellFormed x m) (e : ℕ) (t : Float) whe
     fins-kept = record { once = fins-once }
 
     -- ---- every fin still ends where the next starts
-
-    pub edge-first : edge (afterSplit m e t) e ≡ firstHalf m (edge m e)
-    unfolding afterSplit extended changed
-    edge-first = rw (lt-ltb e (m .edges .used) he, eq-eqb e e refl)
-
-    pub edge-other : (p : ℕ) → p < m .edges .used → (p ≡ e → ⊥) → edge (afterSplit m e t) p ≡ edge m p
-    unfolding afterSplit extended changed
-    edge-other p h d = rw (lt-ltb p (m .edges .used) h, ne-eqb p e d)
 
     -- the edge's fins are those that name it
     pub in-fins : (f : ℕ) → f < m .fins .used → fin m f .edge ≡ e → member f (edge m e .fins) ≡ true
@@ -260,12 +209,6 @@ module _ (x : Limits) (m : Model) (w : WellFormed x m) (e : ℕ) (t : Float) whe
           ends = (ap (λ z. z .end) q ∙ sym (ap (λ z. z .start) p), (ap (λ z. z .end) p ∙ sym (ap (λ z. z .end) r), tt));
         }
 
-    pub fin-at-new : (f : ℕ) → member f (edge m e .fins) ≡ true → fin (afterSplit m e t) (newFin m e f) ≡ finCopy m f
-    fin-at-new f h =
-        fin-fresh (newFin m e f) (omega arith)
-        ∙ ap (λ i. finCopy m (getD (edge m e .fins) i 0)) (omega arith)
-        ∙ ap (finCopy m) (nth-place (edge m e .fins) f h)
-
     leads : (l f : ℕ) → f < m .fins .used → fin m f .owner ≡ l → Leads f (withNew m e l f)
     leads l f h o = by (eqb (fin m f .edge) e) refl
       where
@@ -275,10 +218,10 @@ module _ (x : Limits) (m : Model) (w : WellFormed x m) (e : ℕ) (t : Float) whe
             let mem : member f (edge m e .fins) ≡ true = in-fins f h on in
             rw (mem, eq-eqb (fin m f .owner) l o)
             (halves (fin m f .sense) f (newFin m e f)
-            (rw (fin-was f h, on, edge-first)) (rw (fin-at-new f mem, edge-fresh (m .edges .used) (omega arith))) (rw on))
+            (rw (fin-was m e t f h, on, edge-first m e t he)) (rw (fin-at-new m e t f mem, edge-fresh m e t (m .edges .used) (omega arith))) (rw on))
         by false q =
             let off : fin m f .edge ≡ e → ⊥ = eqb-false (fin m f .edge) e q in
-            rw (not-in-fins f h off) (alone f (rw (fin-was f h, edge-other (fin m f .edge) (w .ids .fin-edge f h) off)))
+            rw (not-in-fins f h off) (alone f (rw (fin-was m e t f h, edge-other m e t (fin m f .edge) (w .ids .fin-edge f h) off)))
 
     -- all of a loop's list
     joined-follows : (l : ℕ) (L : List ℕ) (v : Option ℕ) → all (λ f. ltb f (m .fins .used) && eqb (fin m f .owner) l) L ≡ true → Follows m L v
@@ -348,24 +291,24 @@ module _ (x : Limits) (m : Model) (w : WellFormed x m) (e : ℕ) (t : Float) whe
     owner-after : (c : ℕ) → c < m .fins .used + length (edge m e .fins) → fin (afterSplit m e t) c .owner < m .loops .used
     owner-after c h =
         elim (decLt c (m .fins .used)) [
-          | yes was ↦ rw (fin-was c was) (w .ids .fin-owner c was)
+          | yes was ↦ rw (fin-was m e t c was) (w .ids .fin-owner c was)
           | no new ↦
-              rw (fin-fresh c (omega arith))
+              rw (fin-fresh m e t c (omega arith))
               (w .ids .fin-owner (getD (edge m e .fins) (c - m .fins .used) 0) (below-nth (m .fins .used) (edge m e .fins) (c - m .fins .used) (w .ids .edge-fins e he) (omega arith)))
         ]
 
     edge-after : (c : ℕ) → c < m .fins .used + length (edge m e .fins) → fin (afterSplit m e t) c .edge < m .edges .used + 1
     edge-after c h =
         elim (decLt c (m .fins .used)) [
-          | yes was ↦ rw (fin-was c was) (omega (arith, w .ids .fin-edge c was))
-          | no new ↦ rw (fin-fresh c (omega arith)) (omega arith)
+          | yes was ↦ rw (fin-was m e t c was) (omega (arith, w .ids .fin-edge c was))
+          | no new ↦ rw (fin-fresh m e t c (omega arith)) (omega arith)
         ]
 
     fins-after : (p : ℕ) → p < m .edges .used + 1 → all (λ i. ltb i (m .fins .used + length (edge m e .fins))) (edge (afterSplit m e t) p .fins) ≡ true
     fins-after p h =
         elim (decLt p (m .edges .used)) [
-          | yes old ↦ rw (edge-was-fins p old) (all-weaken (m .fins .used) (m .fins .used + length (edge m e .fins)) (edge m p .fins) (omega arith) (w .ids .edge-fins p old))
-          | no last ↦ rw (edge-fresh p (omega arith)) (all-run (m .fins .used) (length (edge m e .fins)))
+          | yes old ↦ rw (edge-was-fins m e t p old) (all-weaken (m .fins .used) (m .fins .used + length (edge m e .fins)) (edge m p .fins) (omega arith) (w .ids .edge-fins p old))
+          | no last ↦ rw (edge-fresh m e t p (omega arith)) (all-run (m .fins .used) (length (edge m e .fins)))
         ]
 
     -- an edge's ends and curve: an old edge's, but for the end of e, which is the new vertex; and those of the new edge
@@ -373,34 +316,34 @@ module _ (x : Limits) (m : Model) (w : WellFormed x m) (e : ℕ) (t : Float) whe
     start-after p h =
         elim (decLt p (m .edges .used)) [
           | yes old ↦ go (eqb p e) refl old
-          | no last ↦ rw (edge-fresh p (omega arith)) (lt-ltb (m .vertices .used) (m .vertices .used + 1) (omega arith))
+          | no last ↦ rw (edge-fresh m e t p (omega arith)) (lt-ltb (m .vertices .used) (m .vertices .used + 1) (omega arith))
         ]
       where
         go : (b : Bool) → eqb p e ≡ b → p < m .edges .used → belowMaybe (m .vertices .used + 1) (edge (afterSplit m e t) p .start) ≡ true
-        go true q old = rw (eqb-true p e q, edge-first) (maybe-weaken (m .vertices .used) (m .vertices .used + 1) (edge m e .start) (omega arith) (w .ids .edge-start e he))
-        go false q old = rw (edge-other p old (eqb-false p e q)) (maybe-weaken (m .vertices .used) (m .vertices .used + 1) (edge m p .start) (omega arith) (w .ids .edge-start p old))
+        go true q old = rw (eqb-true p e q, edge-first m e t he) (maybe-weaken (m .vertices .used) (m .vertices .used + 1) (edge m e .start) (omega arith) (w .ids .edge-start e he))
+        go false q old = rw (edge-other m e t p old (eqb-false p e q)) (maybe-weaken (m .vertices .used) (m .vertices .used + 1) (edge m p .start) (omega arith) (w .ids .edge-start p old))
 
     end-after : (p : ℕ) → p < m .edges .used + 1 → belowMaybe (m .vertices .used + 1) (edge (afterSplit m e t) p .end) ≡ true
     end-after p h =
         elim (decLt p (m .edges .used)) [
           | yes old ↦ go (eqb p e) refl old
-          | no last ↦ rw (edge-fresh p (omega arith)) (maybe-weaken (m .vertices .used) (m .vertices .used + 1) (edge m e .end) (omega arith) (w .ids .edge-end e he))
+          | no last ↦ rw (edge-fresh m e t p (omega arith)) (maybe-weaken (m .vertices .used) (m .vertices .used + 1) (edge m e .end) (omega arith) (w .ids .edge-end e he))
         ]
       where
         go : (b : Bool) → eqb p e ≡ b → p < m .edges .used → belowMaybe (m .vertices .used + 1) (edge (afterSplit m e t) p .end) ≡ true
-        go true q old = rw (eqb-true p e q, edge-first) (lt-ltb (m .vertices .used) (m .vertices .used + 1) (omega arith))
-        go false q old = rw (edge-other p old (eqb-false p e q)) (maybe-weaken (m .vertices .used) (m .vertices .used + 1) (edge m p .end) (omega arith) (w .ids .edge-end p old))
+        go true q old = rw (eqb-true p e q, edge-first m e t he) (lt-ltb (m .vertices .used) (m .vertices .used + 1) (omega arith))
+        go false q old = rw (edge-other m e t p old (eqb-false p e q)) (maybe-weaken (m .vertices .used) (m .vertices .used + 1) (edge m p .end) (omega arith) (w .ids .edge-end p old))
 
     curve-after : (p : ℕ) → p < m .edges .used + 1 → belowMaybe (m .curves .used) (edge (afterSplit m e t) p .curve) ≡ true
     curve-after p h =
         elim (decLt p (m .edges .used)) [
           | yes old ↦ go (eqb p e) refl old
-          | no last ↦ rw (edge-fresh p (omega arith)) (w .ids .edge-curve e he)
+          | no last ↦ rw (edge-fresh m e t p (omega arith)) (w .ids .edge-curve e he)
         ]
       where
         go : (b : Bool) → eqb p e ≡ b → p < m .edges .used → belowMaybe (m .curves .used) (edge (afterSplit m e t) p .curve) ≡ true
-        go true q old = rw (eqb-true p e q, edge-first) (w .ids .edge-curve e he)
-        go false q old = rw (edge-other p old (eqb-false p e q)) (w .ids .edge-curve p old)
+        go true q old = rw (eqb-true p e q, edge-first m e t he) (w .ids .edge-curve e he)
+        go false q old = rw (edge-other m e t p old (eqb-false p e q)) (w .ids .edge-curve p old)
 
     pub ids-kept : StoredIds (afterSplit m e t)
     unfolding afterSplit extended changed
@@ -412,7 +355,7 @@ module _ (x : Limits) (m : Model) (w : WellFormed x m) (e : ℕ) (t : Float) whe
           shell-region = w .ids .shell-region;
           shell-faces = w .ids .shell-faces;
           shell-wire-edges = λ s h.
-              all-joined (λ i. ltb i (m .edges .used + 1)) (λ i. ltb i (m .edges .used)) (λ x. cond (eqb x e) (e ∷ m .edges .used ∷ []) (x ∷ [])) (m .shells .slot s .wireEdges)
+              all-joined (λ i. ltb i (m .edges .used + 1)) (λ i. ltb i (m .edges .used)) (withNewEdge m e) (m .shells .slot s .wireEdges)
               wire-below (w .ids .shell-wire-edges s h);
           shell-acorn-vertices = λ s h. all-weaken (m .vertices .used) (m .vertices .used + 1) (m .shells .slot s .acornVertices) (omega arith) (w .ids .shell-acorn-vertices s h);
           face-front = w .ids .face-front;
@@ -450,7 +393,7 @@ module _ (x : Limits) (m : Model) (w : WellFormed x m) (e : ℕ) (t : Float) whe
         by false q false r = refl
 
     wires-joined : (c : ℕ) (W : List ℕ) → all (λ i. ltb i (m .edges .used)) W ≡ true
-        → count c (joined (λ x. cond (eqb x e) (e ∷ m .edges .used ∷ []) (x ∷ [])) W) ≡ cond (eqb c (m .edges .used)) (count e W) (count c W)
+        → count c (joined (withNewEdge m e) W) ≡ cond (eqb c (m .edges .used)) (count e W) (count c W)
     unfolding joined count all
     wires-joined c [] a = none-of (eqb c (m .edges .used))
       where
@@ -459,8 +402,8 @@ module _ (x : Limits) (m : Model) (w : WellFormed x m) (e : ℕ) (t : Float) whe
         none-of false = refl
     wires-joined c (y ∷ W) a =
         let both : (ltb y (m .edges .used) ≡ true) × (all (λ i. ltb i (m .edges .used)) W ≡ true) = and-both _ _ a in
-        count-append c (cond (eqb y e) (e ∷ m .edges .used ∷ []) (y ∷ [])) (joined (λ x. cond (eqb x e) (e ∷ m .edges .used ∷ []) (x ∷ [])) W)
-        ∙ ap (λ n. n + count c (joined (λ x. cond (eqb x e) (e ∷ m .edges .used ∷ []) (x ∷ [])) W)) (wire-count y c (ltb-true y (m .edges .used) (both .0)))
+        count-append c (cond (eqb y e) (e ∷ m .edges .used ∷ []) (y ∷ [])) (joined (withNewEdge m e) W)
+        ∙ ap (λ n. n + count c (joined (withNewEdge m e) W)) (wire-count y c (ltb-true y (m .edges .used) (both .0)))
         ∙ ap (λ n. cond (eqb c (m .edges .used)) (cond (eqb e y) 1 0) (cond (eqb c y) 1 0) + n) (wires-joined c W (both .1))
         ∙ go (eqb c (m .edges .used)) (eqb e y) (eqb c y) (count e W) (count c W)
       where
@@ -515,11 +458,11 @@ module _ (x : Limits) (m : Model) (w : WellFormed x m) (e : ℕ) (t : Float) whe
         bits true = refl
         bits false = refl
 
-    wires-length : (W : List ℕ) → length (joined (λ x. cond (eqb x e) (e ∷ m .edges .used ∷ []) (x ∷ [])) W) ≡ length W + count e W
+    wires-length : (W : List ℕ) → length (joined (withNewEdge m e) W) ≡ length W + count e W
     unfolding joined count
     wires-length [] = refl
     wires-length (y ∷ W) =
-        length-append (cond (eqb y e) (e ∷ m .edges .used ∷ []) (y ∷ [])) (joined (λ x. cond (eqb x e) (e ∷ m .edges .used ∷ []) (x ∷ [])) W)
+        length-append (cond (eqb y e) (e ∷ m .edges .used ∷ []) (y ∷ [])) (joined (withNewEdge m e) W)
         ∙ ap (λ n. length (cond (eqb y e) (e ∷ m .edges .used ∷ []) (y ∷ [])) + n) (wires-length W)
         ∙ go (eqb y e) refl (eqb e y) refl (length W) (count e W)
       where
@@ -534,12 +477,12 @@ module _ (x : Limits) (m : Model) (w : WellFormed x m) (e : ℕ) (t : Float) whe
     edge-tolerance-after p h =
         elim (decLt p (m .edges .used)) [
           | yes old ↦ go (eqb p e) refl old
-          | no last ↦ rw (edge-fresh p (omega arith)) (w .tables .edge-tolerance e he)
+          | no last ↦ rw (edge-fresh m e t p (omega arith)) (w .tables .edge-tolerance e he)
         ]
       where
         go : (b : Bool) → eqb p e ≡ b → p < m .edges .used → toleranceOk (edge (afterSplit m e t) p .tolerance) ≡ true
-        go true q old = rw (eqb-true p e q, edge-first) (w .tables .edge-tolerance e he)
-        go false q old = rw (edge-other p old (eqb-false p e q)) (w .tables .edge-tolerance p old)
+        go true q old = rw (eqb-true p e q, edge-first m e t he) (w .tables .edge-tolerance e he)
+        go false q old = rw (edge-other m e t p old (eqb-false p e q)) (w .tables .edge-tolerance p old)
 
     vertex-tolerance-after : (p : ℕ) → p < m .vertices .used + 1 → toleranceOk (vertex (afterSplit m e t) p .tolerance) ≡ true
     unfolding afterSplit extended
@@ -552,8 +495,8 @@ module _ (x : Limits) (m : Model) (w : WellFormed x m) (e : ℕ) (t : Float) whe
     edge-fins-after : (p : ℕ) → p < m .edges .used + 1 → length (edge (afterSplit m e t) p .fins) ≤ x .edgeFins
     edge-fins-after p h =
         elim (decLt p (m .edges .used)) [
-          | yes old ↦ rw (edge-was-fins p old) (w .tables .edge-fins p old)
-          | no last ↦ rw (edge-fresh p (omega arith), length-run (m .fins .used) (length (edge m e .fins))) (w .tables .edge-fins e he)
+          | yes old ↦ rw (edge-was-fins m e t p old) (w .tables .edge-fins p old)
+          | no last ↦ rw (edge-fresh m e t p (omega arith), length-run (m .fins .used) (length (edge m e .fins))) (w .tables .edge-fins e he)
         ]
 
     module _ (room : test13 x m e ≡ 0) where
@@ -643,25 +586,6 @@ module _ (x : Limits) (m : Model) (w : WellFormed x m) (e : ℕ) (t : Float) whe
           }
 
 -- ---- one split, and any sequence of them
-
--- a split that is not refused has an edge, and room
-pub accepted : (x : Limits) (m : Model) (e : ℕ) (t : Float) → splitRefusal x m e t ≡ 0 → (e < m .edges .used) × (test13 x m e ≡ 0)
-unfolding splitRefusal
-accepted x m e t h =
-    (ltb-true e (m .edges .used) (unless-zero 1 (ltb e (m .edges .used)) (none-refused (splitTests x m e t) h 1)), none-refused (splitTests x m e t) h 12)
-
--- the model after a split, by the split's number
-pub went-to : (x : Limits) (m : Model) (e : ℕ) (t : Float) (n : ℕ) → splitRefusal x m e t ≡ n → modelAfter x m e t ≡ whereAccepted n m (afterSplit m e t)
-unfolding modelAfter
-went-to x m e t n h = rw h
-
-pub bodies-kept : (x : Limits) (m : Model) (e : ℕ) (t : Float) → modelAfter x m e t .bodies ≡ m .bodies
-unfolding modelAfter afterSplit
-bodies-kept x m e t = go (splitRefusal x m e t)
-  where
-    go : (n : ℕ) → whereAccepted n m (afterSplit m e t) .bodies ≡ m .bodies
-    go zero = refl
-    go (suc n) = refl
 
 pub split-keeps : (x : Limits) (m : Model) (e : ℕ) (t : Float) → WellFormed x m → WellFormed x (modelAfter x m e t)
 unfolding modelAfter

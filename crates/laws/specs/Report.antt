@@ -18,8 +18,9 @@ use Rattle.meaning.specs.Formed.{WellFormed, topological, topologicalReport, em
 use Rattle.lists.specs.Tests.{bit-true}
 use Rattle.lists.specs.Lists.{count-present, below-nth}
 use Rattle.laws.specs.Findings.{faultsOf-append}
+use Rattle.laws.specs.After.{fin-was, fin-fresh, edge-fresh, edge-was-fins, accepted, went-to, bodies-kept}
 use Rattle.laws.specs.Clean.{surfaceless, regions-clean}
-use Rattle.laws.specs.Kept.{fin-was, fin-fresh, edge-was-fins, edge-fresh, well-formed-kept, accepted, went-to, bodies-kept, split-keeps}
+use Rattle.laws.specs.Kept.{well-formed-kept, split-keeps}
 use Rattle.laws.specs.Walked.{edges-given}
 use Rattle.laws.specs.Gained.{edge-walk-after, edge-walk-old, walked-below}
 
@@ -113,7 +114,7 @@ module _ (x : Limits) (m : Model) (w : WellFormed x m) (e : ℕ) (t : Float) (he
       go i j a s =
           let hi : i < m .fins .used = below-nth (m .fins .used) (i ∷ j ∷ []) 0 a (omega arith) in
           let hj : j < m .fins .used = below-nth (m .fins .used) (i ∷ j ∷ []) 1 a (omega arith) in
-          fins-two (afterSplit m e t) p i j (rw (fin-was x m w e t i hi, fin-was x m w e t j hj) (rw (lt-ltb i (m .fins .used) hi, lt-ltb j (m .fins .used) hj) at s))
+          fins-two (afterSplit m e t) p i j (rw (fin-was m e t i hi, fin-was m e t j hj) (rw (lt-ltb i (m .fins .used) hi, lt-ltb j (m .fins .used) hj) at s))
 
   -- the new edge has two fins of two senses where the old one has
   manifold-new : NoFault (manifold m e (edge m e .fins)) → NoFault (manifold (afterSplit m e t) (m .edges .used) (run (m .fins .used) (length (edge m e .fins))))
@@ -122,7 +123,7 @@ module _ (x : Limits) (m : Model) (w : WellFormed x m) (e : ℕ) (t : Float) (he
     where
       sense-at : (l : List ℕ) → edge m e .fins ≡ l → (k : ℕ) → fin (afterSplit m e t) (m .fins .used + k) .sense ≡ fin m (getD l k 0) .sense
       sense-at l q k =
-          ap (λ r. r .sense) (fin-fresh x m w e t (m .fins .used + k) (omega arith))
+          ap (λ r. r .sense) (fin-fresh m e t (m .fins .used + k) (omega arith))
           ∙ ap (λ i. fin m (getD (edge m e .fins) i 0) .sense) (omega arith)
           ∙ ap (λ l. fin m (getD l k 0) .sense) q
 
@@ -152,12 +153,12 @@ module _ (x : Limits) (m : Model) (w : WellFormed x m) (e : ℕ) (t : Float) (he
             let walked-new : 1 ≤ count (m .edges .used) (edgeWalk (afterSplit m e t) b) = count-present (m .edges .used) (edgeWalk (afterSplit m e t) b) (rw last at q) in
             let walked-old : member e (edgeWalk m b) ≡ true = bit-true (member e (edgeWalk m b)) (rw (edge-walk-after x m w e t he b hb .once) at walked-new) in
             seen p (omega arith)
-            (rw (last, edge-fresh x m w e t (m .edges .used) (omega arith)) (manifold-new (quiet e walked-old he)))
+            (rw (last, edge-fresh m e t (m .edges .used) (omega arith)) (manifold-new (quiet e walked-old he)))
         by false r =
             let there : member p (edgeWalk m b) ≡ true = sym (edge-walk-old x m w e t he b hb p (eqb-false p (m .edges .used) r)) ∙ q in
             let below : p < m .edges .used = walked-below x m w e t he b hb p there in
             seen p (omega arith)
-            (rw (edge-was-fins x m w e t p below) (manifold-kept p (edge m p .fins) (w .ids .edge-fins p below) (quiet p there below)))
+            (rw (edge-was-fins m e t p below) (manifold-kept p (edge m p .fins) (w .ids .edge-fins p below) (quiet p there below)))
 
     manifolds-kept : NoFault (manifoldEdges m b) → NoFault (manifoldEdges (afterSplit m e t) b)
     unfolding manifoldEdges

@@ -10,11 +10,12 @@ use lib.ListN.{length}
 use lib.Ieee.{Float}
 use Rattle.meaning.specs.Lists.{run, member, joined}
 use Rattle.meaning.specs.Model.{Shell, Loop, Edge, Table, Model, extended, changed, shell, fin, edge, largest}
+use Rattle.meaning.specs.Walks.{vertexWalk}
 use Rattle.meaning.specs.Split.{splitRefusal, newFin, firstHalf, secondHalf, afterSplit, modelAfter}
 use Rattle.meaning.specs.Formed.{WellFormed, wellFormed}
 use Rattle.meaning.specs.Computing.{computing}
 use Rattle.meaning.specs.Stone.{stone}
-use Rattle.meaning.specs.Blade.{quarter, blade, shellIs}
+use Rattle.meaning.specs.Blade.{quarter, blade, shellIs, withLoop}
 use Rattle.laws.specs.Decided.{facts-pass}
 
 -- ---- the model after a split, with other shells, loops or edges
@@ -92,3 +93,13 @@ pub wires-right-and-wrong :
     map (λ m. shell m 0 .wireEdges) (wired ∷ modelAfter largest wired 0 quarter ∷ wireFirst wired 0 quarter ∷ []) ≡ (0 ∷ []) ∷ (0 ∷ 1 ∷ []) ∷ (1 ∷ 0 ∷ []) ∷ []
 unfolding computing
 wires-right-and-wrong = refl
+
+-- ---- why of vertices the statements count: a walk that meets the edge by its negative fin first meets the old end before the old start
+
+-- the blade, its loop from the negative fin on: the new vertex is 2
+abbrev turned : Model
+turned = withLoop 0 (record { face = 0; fins = 1 ∷ 0 ∷ [] }) blade
+
+pub vertices-turned : map (λ m. vertexWalk m 0) (turned ∷ modelAfter largest turned 0 quarter ∷ []) ≡ (0 ∷ 1 ∷ []) ∷ (2 ∷ 1 ∷ 0 ∷ []) ∷ []
+unfolding computing
+vertices-turned = refl

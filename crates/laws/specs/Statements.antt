@@ -10,12 +10,12 @@ use Rattle.meaning.specs.Model.{Model, shell, Limits}
 use Rattle.meaning.specs.Refuse.{refused, given}
 use Rattle.meaning.specs.Split.{splitRefusal, EdgeSplit, splitLineEdge, modelAfter, Cut, afterAll}
 use Rattle.meaning.specs.Formed.{WellFormed, wellFormed, topologicalReport, emptyReport, hasEdge}
-use Rattle.laws.specs.Terms.{splitEdges, Restored, Walked, OneMore, SameWalks, eulerNumber}
+use Rattle.laws.specs.Terms.{struck, itself, splitEdges, Restored, Walked, OneMore, SameWalks, eulerNumber}
 use Rattle.laws.specs.Decided.{decided, facts-pass}
 use Rattle.laws.specs.Kept.{splits-keep}
 use Rattle.laws.specs.Rows.{splitRows, Passes, RefusedAt}
 use Rattle.laws.specs.Refusals.{refused-where, accepted-where, accepted-only, one-row, answered-given, row-of-answer, refused-keeps}
-use Rattle.laws.specs.Struck.{splits-restore}
+use Rattle.laws.specs.Struck.{splits-restore, restored-whole}
 use Rattle.laws.specs.Gained.{walked, split-adds-one, new-wire-after, split-leaves-others, euler-kept}
 use Rattle.laws.specs.Report.{reports-kept}
 
@@ -37,25 +37,32 @@ empty-report-stays = reports-kept
 pub walks-given : (x : Limits) (m : Model) → WellFormed x m → (b : ℕ) → b < m .bodies .used → Walked m b
 walks-given = walked
 
-pub accepted-split-adds-one : (x : Limits) (m : Model) (e : ℕ) (t : Float) (s : EdgeSplit) → WellFormed x m → splitLineEdge x m e t ≡ given s → (b : ℕ) → b < m .bodies .used
+pub accepted-split-adds-one : (x : Limits) (m : Model) (e : ℕ) (t : Float) (s : EdgeSplit)
+    → WellFormed x m → splitLineEdge x m e t ≡ given s → (b : ℕ) → b < m .bodies .used
     → hasEdge m b e ≡ true → OneMore m (modelAfter x m e t) b (s .newEdge) (s .vertex)
 accepted-split-adds-one = split-adds-one
 
-pub accepted-split-leaves-others : (x : Limits) (m : Model) (e : ℕ) (t : Float) (s : EdgeSplit) → WellFormed x m → splitLineEdge x m e t ≡ given s → (b : ℕ) → b < m .bodies .used
+pub accepted-split-leaves-others : (x : Limits) (m : Model) (e : ℕ) (t : Float) (s : EdgeSplit)
+    → WellFormed x m → splitLineEdge x m e t ≡ given s → (b : ℕ) → b < m .bodies .used
     → hasEdge m b e ≡ false → SameWalks m (modelAfter x m e t) b
 accepted-split-leaves-others = split-leaves-others
 
 -- "so vertices minus edges plus faces never changes"
-pub euler-number-stays : (x : Limits) (m : Model) (l : List Cut) → WellFormed x m → (b : ℕ) → b < m .bodies .used → eulerNumber (afterAll x m l) b ≡ eulerNumber m b
+pub euler-number-stays : (x : Limits) (m : Model) (l : List Cut) → WellFormed x m → (b : ℕ) → b < m .bodies .used
+    → eulerNumber (afterAll x m l) b ≡ eulerNumber m b
 euler-number-stays = euler-kept
 
 -- 4. "Striking out what was added gives back every stored list in its starting order", and every other field of every old record is as it was but for
--- the end of a split edge (`Restored`: Terms.antt)
-pub gives-back : (x : Limits) (m : Model) (l : List Cut) → WellFormed x m → Restored m (afterAll x m l) (splitEdges x m l)
-gives-back = splits-restore
+-- the end of a split edge (`Restored`: Terms.antt). From any model: a starting list may have ids of no record, which are struck out of it too
+pub gives-back : (x : Limits) (m : Model) (l : List Cut) → WellFormed x m → Restored m (afterAll x m l) (splitEdges x m l) itself
+gives-back x m l w = restored-whole m (afterAll x m l) (splitEdges x m l) (w .ids) (splits-restore x m l)
+
+pub gives-back-any : (x : Limits) (m : Model) (l : List Cut) → Restored m (afterAll x m l) (splitEdges x m l) struck
+gives-back-any = splits-restore
 
 -- and what was added to a list of wire edges stands right after the old edge (of a new fin 1 tells: every fin ends where the next starts)
-pub wire-edge-follows : (x : Limits) (m : Model) (e : ℕ) (t : Float) (r : EdgeSplit) → WellFormed x m → splitLineEdge x m e t ≡ given r → (s : ℕ) → s < m .shells .used
+pub wire-edge-follows : (x : Limits) (m : Model) (e : ℕ) (t : Float) (r : EdgeSplit)
+    → WellFormed x m → splitLineEdge x m e t ≡ given r → (s : ℕ) → s < m .shells .used
     → (k l : List ℕ) → shell m s .wireEdges ≡ k ++ (e ∷ l) → shell (modelAfter x m e t) s .wireEdges ≡ k ++ (e ∷ r .newEdge ∷ l)
 wire-edge-follows = new-wire-after
 
@@ -65,11 +72,13 @@ pub refused-by-row : (x : Limits) (m : Model) (e : ℕ) (t : Float) (n : ℕ)
     → (splitLineEdge x m e t ≡ refused (suc n)) ↔ ((k : ℕ) × RefusedAt (splitRows x m e t) k (suc n))
 refused-by-row x m e t n = (row-of-answer x m e t (suc n), λ r. rw (refused-where x m e t (r .0) n (r .1)))
 
-pub refused-at-one-row : (x : Limits) (m : Model) (e : ℕ) (t : Float) (j k n i : ℕ) → RefusedAt (splitRows x m e t) j n → RefusedAt (splitRows x m e t) k i → j ≡ k
+pub refused-at-one-row : (x : Limits) (m : Model) (e : ℕ) (t : Float) (j k n i : ℕ)
+    → RefusedAt (splitRows x m e t) j n → RefusedAt (splitRows x m e t) k i → j ≡ k
 refused-at-one-row x m e t = one-row (splitRows x m e t)
 
 pub accepted-by-rows : (x : Limits) (m : Model) (e : ℕ) (t : Float)
-    → (splitLineEdge x m e t ≡ given (record { originalEdge = e; newEdge = m .edges .used; vertex = m .vertices .used })) ↔ ((k : ℕ) → Passes (getD (splitRows x m e t) k []))
+    → (splitLineEdge x m e t ≡ given (record { originalEdge = e; newEdge = m .edges .used; vertex = m .vertices .used }))
+    ↔ ((k : ℕ) → Passes (getD (splitRows x m e t) k []))
 accepted-by-rows x m e t = (λ h. accepted-only x m e t (answered-given (splitRefusal x m e t) _ _ h), λ p. rw (accepted-where x m e t p))
 
 -- 6. a refused split leaves the model as it was

@@ -8,15 +8,15 @@ use mathlib.Core.List.{List, [], _∷_, _++_}
 use mathlib.Core.Option.{some}
 use lib.Dec.{eqb, ltb}
 use lib.Ieee.{Float}
-use borrow.Author.Tests.{ltb-true, eqb-true, lt-ltb, le-ltb, ne-eqb}
+use borrow.Author.Tests.{eqb-true, lt-ltb, le-ltb, ne-eqb}
 use Rattle.meaning.specs.Lists.{all, member, joined}
-use Rattle.meaning.specs.Model.{Sense, positive, negative, Edge, Model, extended, changed, body, region, shell, face, loop, fin, edge, vertex, Limits}
+use Rattle.meaning.specs.Model.{Sense, positive, negative, Model, extended, changed, body, region, shell, face, loop, fin, edge, Limits}
 use Rattle.meaning.specs.Split.{splitRefusal, newFin, beside, withNew, firstHalf, afterSplit, modelAfter, Cut, afterAll}
-use Rattle.meaning.specs.Formed.{WellFormed}
-use Rattle.laws.specs.Terms.{sifted, struck, splitEdges, Restored}
+use Rattle.meaning.specs.Formed.{StoredIds}
+use Rattle.laws.specs.Terms.{sifted, struck, itself, splitEdges, Restored}
 use Rattle.lists.specs.Tests.{and-both}
 use Rattle.lists.specs.Lists.{member-front-none, member-back-none, member-front}
-use Rattle.laws.specs.Kept.{fin-was, accepted, went-to, split-keeps}
+use Rattle.laws.specs.After.{withNewEdge, fin-was, edge-was, edge-was-fins, vertex-was, accepted, went-to}
 
 -- ---- sifted
 
@@ -37,13 +37,11 @@ sifted-all p (y ∷ l) a =
     let both : (p y ≡ true) × (all p l ≡ true) = and-both (p y) (all p l) a in
     rw (both .0, sifted-all p l (both .1))
 
--- where what stands for each entry is struck to the entry, the joined list is struck to the list
-pub sifted-joined : (p : ℕ → Bool) (g : ℕ → List ℕ) (l : List ℕ) → ((y : ℕ) → p y ≡ true → sifted p (g y) ≡ (y ∷ [])) → all p l ≡ true → sifted p (joined g l) ≡ l
-unfolding joined all
-sifted-joined p g [] h a = unfold sifted in refl
-sifted-joined p g (y ∷ l) h a =
-    let both : (p y ≡ true) × (all p l ≡ true) = and-both (p y) (all p l) a in
-    rw (sifted-append p (g y) (joined g l), h y (both .0), sifted-joined p g l h (both .1))
+-- where what stands for each entry is struck to what the entry is struck to, so is the joined list
+pub sifted-joined : (p : ℕ → Bool) (g : ℕ → List ℕ) (l : List ℕ) → ((y : ℕ) → sifted p (g y) ≡ sifted p (y ∷ [])) → sifted p (joined g l) ≡ sifted p l
+unfolding joined
+sifted-joined p g [] h = refl
+sifted-joined p g (y ∷ l) h = rw (sifted-append p (g y) (joined g l), h y, sifted-joined p g l h) (sym (sifted-append p (y ∷ []) l))
 
 -- striking out twice
 pub struck-struck : (n k : ℕ) (l : List ℕ) → n ≤ k → struck n (struck k l) ≡ struck n l
@@ -56,13 +54,13 @@ struck-struck n k (y ∷ l) h =
     ]
 
 -- struck by the later count, then by the earlier
-pub struck-back : (n k : ℕ) (a b c : List ℕ) → n ≤ k → struck k c ≡ b → struck n b ≡ a → struck n c ≡ a
-struck-back n k a b c h p q = sym (struck-struck n k c h) ∙ ap (λ l. struck n l) p ∙ q
+pub struck-back : (n k : ℕ) (a b c : List ℕ) → n ≤ k → struck k c ≡ struck k b → struck n b ≡ struck n a → struck n c ≡ struck n a
+struck-back n k a b c h p q = sym (struck-struck n k c h) ∙ ap (λ l. struck n l) p ∙ struck-struck n k b h ∙ q
 
 -- ---- no split restores
 
-module _ (x : Limits) (m : Model) (w : WellFormed x m) where
-  pub restored-same : Restored m m []
+module _ (m : Model) where
+  pub restored-same : Restored m m [] struck
   unfolding member
   restored-same =
       record {
@@ -77,14 +75,14 @@ module _ (x : Limits) (m : Model) (w : WellFormed x m) where
         curves = refl;
         surfaces = refl;
         precision = refl;
-        body-regions = λ i h. sifted-all (λ j. ltb j (m .regions .used)) (body m i .regions) (w .ids .body-regions i h);
-        region-shells = λ i h. sifted-all (λ j. ltb j (m .shells .used)) (region m i .shells) (w .ids .region-shells i h);
-        shell-faces = λ i h. sifted-all (λ j. ltb j (m .faces .used)) (shell m i .faces) (w .ids .shell-faces i h);
-        shell-wire-edges = λ i h. sifted-all (λ j. ltb j (m .edges .used)) (shell m i .wireEdges) (w .ids .shell-wire-edges i h);
-        shell-acorn-vertices = λ i h. sifted-all (λ j. ltb j (m .vertices .used)) (shell m i .acornVertices) (w .ids .shell-acorn-vertices i h);
-        face-loops = λ i h. sifted-all (λ j. ltb j (m .loops .used)) (face m i .loops) (w .ids .face-loops i h);
-        loop-fins = λ i h. sifted-all (λ j. ltb j (m .fins .used)) (loop m i .fins) (w .ids .loop-fins i h);
-        edge-fins = λ i h. sifted-all (λ j. ltb j (m .fins .used)) (edge m i .fins) (w .ids .edge-fins i h);
+        body-regions = λ i h. refl;
+        region-shells = λ i h. refl;
+        shell-faces = λ i h. refl;
+        shell-wire-edges = λ i h. refl;
+        shell-acorn-vertices = λ i h. refl;
+        face-loops = λ i h. refl;
+        loop-fins = λ i h. refl;
+        edge-fins = λ i h. refl;
         body-kind = λ i h. refl;
         region-body = λ i h. refl;
         region-solid = λ i h. refl;
@@ -105,40 +103,27 @@ module _ (x : Limits) (m : Model) (w : WellFormed x m) where
 
 -- ---- one accepted split
 
-module _ (x : Limits) (m : Model) (w : WellFormed x m) (e : ℕ) (t : Float) (he : e < m .edges .used) where
+module _ (m : Model) (e : ℕ) (t : Float) (he : e < m .edges .used) where
   -- a fin and its new fin
-  struck-beside : (s : Sense) (f n : ℕ) → f < m .fins .used → m .fins .used ≤ n → struck (m .fins .used) (beside s f n) ≡ (f ∷ [])
+  struck-beside : (s : Sense) (f n : ℕ) → m .fins .used ≤ n → struck (m .fins .used) (beside s f n) ≡ struck (m .fins .used) (f ∷ [])
   unfolding sifted
-  struck-beside positive f n h k = rw (lt-ltb f (m .fins .used) h, le-ltb n (m .fins .used) k)
-  struck-beside negative f n h k = rw (lt-ltb f (m .fins .used) h, le-ltb n (m .fins .used) k)
+  struck-beside positive f n k = rw (le-ltb n (m .fins .used) k)
+  struck-beside negative f n k = rw (le-ltb n (m .fins .used) k)
 
-  struck-one : (n f : ℕ) → ltb f n ≡ true → struck n (f ∷ []) ≡ (f ∷ [])
-  unfolding sifted
-  struck-one n f h = rw h
-
-  struck-fin : (l f : ℕ) → ltb f (m .fins .used) ≡ true → struck (m .fins .used) (withNew m e l f) ≡ (f ∷ [])
-  struck-fin l f h = go (member f (edge m e .fins) && eqb (fin m f .owner) l)
+  struck-fin : (l f : ℕ) → struck (m .fins .used) (withNew m e l f) ≡ struck (m .fins .used) (f ∷ [])
+  struck-fin l f = go (member f (edge m e .fins) && eqb (fin m f .owner) l)
     where
-      go : (b : Bool) → struck (m .fins .used) (cond b (beside (fin m f .sense) f (newFin m e f)) (f ∷ [])) ≡ (f ∷ [])
-      go true = struck-beside (fin m f .sense) f (newFin m e f) (ltb-true f (m .fins .used) h) (omega arith)
-      go false = struck-one (m .fins .used) f h
-
-  struck-wire : (y : ℕ) → ltb y (m .edges .used) ≡ true → struck (m .edges .used) (cond (eqb y e) (e ∷ m .edges .used ∷ []) (y ∷ [])) ≡ (y ∷ [])
-  unfolding sifted
-  struck-wire y h = go (eqb y e) refl
-    where
-      go : (b : Bool) → eqb y e ≡ b → struck (m .edges .used) (cond b (e ∷ m .edges .used ∷ []) (y ∷ [])) ≡ (y ∷ [])
-      go true q = rw (lt-ltb e (m .edges .used) he, le-ltb (m .edges .used) (m .edges .used) (omega arith), eqb-true y e q)
-      go false q = rw h
-
-  -- an old edge but for its end
-  edge-was : {A : Type 0} (f : Edge → A) → ((r : Edge) → f (firstHalf m r) ≡ f r) → (p : ℕ) → p < m .edges .used → f (edge (afterSplit m e t) p) ≡ f (edge m p)
-  unfolding afterSplit extended changed
-  edge-was f s p h = rw (lt-ltb p (m .edges .used) h) (go (eqb p e))
-    where
-      go : (b : Bool) → f (cond b (firstHalf m (edge m p)) (edge m p)) ≡ f (edge m p)
-      go true = s (edge m p)
+      go : (b : Bool) → struck (m .fins .used) (cond b (beside (fin m f .sense) f (newFin m e f)) (f ∷ [])) ≡ struck (m .fins .used) (f ∷ [])
+      go true = struck-beside (fin m f .sense) f (newFin m e f) (omega arith)
       go false = refl
+
+  struck-wire : (y : ℕ) → struck (m .edges .used) (withNewEdge m e y) ≡ struck (m .edges .used) (y ∷ [])
+  unfolding sifted
+  struck-wire y = go (eqb y e) refl
+    where
+      go : (b : Bool) → eqb y e ≡ b → struck (m .edges .used) (cond b (e ∷ m .edges .used ∷ []) (y ∷ [])) ≡ struck (m .edges .used) (y ∷ [])
+      go true q = rw (le-ltb (m .edges .used) (m .edges .used) (omega arith), eqb-true y e q)
+      go false q = refl
 
   end-was : (p : ℕ) → p < m .edges .used → member p (e ∷ []) ≡ false → edge (afterSplit m e t) p .end ≡ edge m p .end
   unfolding afterSplit extended changed member
@@ -156,11 +141,7 @@ module _ (x : Limits) (m : Model) (w : WellFormed x m) (e : ℕ) (t : Float) (he
       go true q = refl
       go false q = absurd (false≢true q)
 
-  vertex-was : (p : ℕ) → p < m .vertices .used → vertex (afterSplit m e t) p ≡ vertex m p
-  unfolding afterSplit extended
-  vertex-was p h = rw (lt-ltb p (m .vertices .used) h)
-
-  pub restored-split : Restored m (afterSplit m e t) (e ∷ [])
+  pub restored-split : Restored m (afterSplit m e t) (e ∷ []) struck
   unfolding afterSplit extended changed
   restored-split =
       record {
@@ -175,14 +156,14 @@ module _ (x : Limits) (m : Model) (w : WellFormed x m) (e : ℕ) (t : Float) (he
         curves = refl;
         surfaces = refl;
         precision = refl;
-        body-regions = λ i h. sifted-all (λ j. ltb j (m .regions .used)) (body m i .regions) (w .ids .body-regions i h);
-        region-shells = λ i h. sifted-all (λ j. ltb j (m .shells .used)) (region m i .shells) (w .ids .region-shells i h);
-        shell-faces = λ i h. sifted-all (λ j. ltb j (m .faces .used)) (shell m i .faces) (w .ids .shell-faces i h);
-        shell-wire-edges = λ i h. sifted-joined (λ j. ltb j (m .edges .used)) (λ y. cond (eqb y e) (e ∷ m .edges .used ∷ []) (y ∷ [])) (shell m i .wireEdges) struck-wire (w .ids .shell-wire-edges i h);
-        shell-acorn-vertices = λ i h. sifted-all (λ j. ltb j (m .vertices .used)) (shell m i .acornVertices) (w .ids .shell-acorn-vertices i h);
-        face-loops = λ i h. sifted-all (λ j. ltb j (m .loops .used)) (face m i .loops) (w .ids .face-loops i h);
-        loop-fins = λ i h. sifted-joined (λ j. ltb j (m .fins .used)) (withNew m e i) (loop m i .fins) (struck-fin i) (w .ids .loop-fins i h);
-        edge-fins = λ i h. ap (λ l. struck (m .fins .used) l) (edge-was (λ r. r .fins) (λ r. refl) i h) ∙ sifted-all (λ j. ltb j (m .fins .used)) (edge m i .fins) (w .ids .edge-fins i h);
+        body-regions = λ i h. refl;
+        region-shells = λ i h. refl;
+        shell-faces = λ i h. refl;
+        shell-wire-edges = λ i h. sifted-joined (λ j. ltb j (m .edges .used)) (withNewEdge m e) (shell m i .wireEdges) struck-wire;
+        shell-acorn-vertices = λ i h. refl;
+        face-loops = λ i h. refl;
+        loop-fins = λ i h. sifted-joined (λ j. ltb j (m .fins .used)) (withNew m e i) (loop m i .fins) (struck-fin i);
+        edge-fins = λ i h. ap (λ l. struck (m .fins .used) l) (edge-was-fins m e t i h);
         body-kind = λ i h. refl;
         region-body = λ i h. refl;
         region-solid = λ i h. refl;
@@ -192,18 +173,18 @@ module _ (x : Limits) (m : Model) (w : WellFormed x m) (e : ℕ) (t : Float) (he
         face-surface = λ i h. refl;
         face-sense = λ i h. refl;
         loop-face = λ i h. refl;
-        fin-whole = fin-was x m w e t;
-        edge-start = edge-was (λ r. r .start) (λ r. refl);
-        edge-curve = edge-was (λ r. r .curve) (λ r. refl);
-        edge-tolerance = edge-was (λ r. r .tolerance) (λ r. refl);
-        vertex-whole = vertex-was;
+        fin-whole = fin-was m e t;
+        edge-start = edge-was m e t (λ r. r .start) (λ r. refl);
+        edge-curve = edge-was m e t (λ r. r .curve) (λ r. refl);
+        edge-tolerance = edge-was m e t (λ r. r .tolerance) (λ r. refl);
+        vertex-whole = vertex-was m e t;
         edge-end = end-was;
         edge-end-split = λ i h q. (m .vertices .used, omega arith, end-new i h q);
       }
 
 -- ---- one after the other
 
-module _ (a b c : Model) (s r : List ℕ) (f : Restored a b s) (g : Restored b c r) where
+module _ (a b c : Model) (s r : List ℕ) (f : Restored a b s struck) (g : Restored b c r struck) where
   in-bodies : (i : ℕ) → i < a .bodies .used → i < b .bodies .used
   in-bodies i h = rw (f .bodies) h
 
@@ -241,7 +222,7 @@ module _ (a b c : Model) (s r : List ℕ) (f : Restored a b s) (g : Restored b c
           let old : (v : ℕ) × (a .vertices .used ≤ v) × (edge b i .end ≡ some v) = f .edge-end-split i h (member-front i s r q y) in
           (old .0, old .1, g .edge-end i (in-edges i h) y ∙ old .2)
 
-  pub restored-then : Restored a c (s ++ r)
+  pub restored-then : Restored a c (s ++ r) struck
   restored-then =
       record {
         bodies = g .bodies ∙ f .bodies;
@@ -281,13 +262,12 @@ module _ (a b c : Model) (s r : List ℕ) (f : Restored a b s) (g : Restored b c
         edge-end-split = end-split;
       }
 
--- ---- any sequence of splits
+-- ---- any sequence of splits, from any model
 
-pub splits-restore : (x : Limits) (m : Model) (l : List Cut) → WellFormed x m → Restored m (afterAll x m l) (splitEdges x m l)
+pub splits-restore : (x : Limits) (m : Model) (l : List Cut) → Restored m (afterAll x m l) (splitEdges x m l) struck
 unfolding afterAll splitEdges
-splits-restore x m [] w = restored-same x m w
-splits-restore x m (c ∷ l) w =
-    go (splitRefusal x m (c .edge) (c .fraction)) refl (splits-restore x (modelAfter x m (c .edge) (c .fraction)) l (split-keeps x m (c .edge) (c .fraction) w))
+splits-restore x m [] = restored-same m
+splits-restore x m (c ∷ l) = go (splitRefusal x m (c .edge) (c .fraction)) refl (splits-restore x (modelAfter x m (c .edge) (c .fraction)) l)
   where
     S : List ℕ
     S = splitEdges x (modelAfter x m (c .edge) (c .fraction)) l
@@ -295,8 +275,50 @@ splits-restore x m (c ∷ l) w =
     M : Model
     M = afterAll x (modelAfter x m (c .edge) (c .fraction)) l
 
-    go : (n : ℕ) → splitRefusal x m (c .edge) (c .fraction) ≡ n → Restored (modelAfter x m (c .edge) (c .fraction)) M S → Restored m M (cond (eqb n 0) (c .edge ∷ S) S)
+    go : (n : ℕ) → splitRefusal x m (c .edge) (c .fraction) ≡ n → Restored (modelAfter x m (c .edge) (c .fraction)) M S struck → Restored m M (cond (eqb n 0) (c .edge ∷ S) S) struck
     go zero h r =
         restored-then m (modelAfter x m (c .edge) (c .fraction)) M (c .edge ∷ []) S
-        (rw (went-to x m (c .edge) (c .fraction) 0 h) (restored-split x m w (c .edge) (c .fraction) (accepted x m (c .edge) (c .fraction) h .0))) r
-    go (suc n) h r = rw (ne-eqb (suc n) 0 (λ z. omega arith)) (subst (λ k. Restored k M S) (went-to x m (c .edge) (c .fraction) (suc n) h) r)
+        (rw (went-to x m (c .edge) (c .fraction) 0 h) (restored-split m (c .edge) (c .fraction) (accepted x m (c .edge) (c .fraction) h .0))) r
+    go (suc n) h r = rw (ne-eqb (suc n) 0 (λ z. omega arith)) (subst (λ k. Restored k M S struck) (went-to x m (c .edge) (c .fraction) (suc n) h) r)
+
+-- ---- where every stored id names a record, there is nothing to strike out of the starting lists
+
+pub restored-whole : (m after : Model) (split : List ℕ) → StoredIds m → Restored m after split struck → Restored m after split itself
+restored-whole m after split ids r =
+    record {
+      bodies = r .bodies;
+      regions = r .regions;
+      shells = r .shells;
+      faces = r .faces;
+      loops = r .loops;
+      fins = r .fins;
+      edges = r .edges;
+      vertices = r .vertices;
+      curves = r .curves;
+      surfaces = r .surfaces;
+      precision = r .precision;
+      body-regions = λ i h. r .body-regions i h ∙ sifted-all (λ j. ltb j (m .regions .used)) (body m i .regions) (ids .body-regions i h);
+      region-shells = λ i h. r .region-shells i h ∙ sifted-all (λ j. ltb j (m .shells .used)) (region m i .shells) (ids .region-shells i h);
+      shell-faces = λ i h. r .shell-faces i h ∙ sifted-all (λ j. ltb j (m .faces .used)) (shell m i .faces) (ids .shell-faces i h);
+      shell-wire-edges = λ i h. r .shell-wire-edges i h ∙ sifted-all (λ j. ltb j (m .edges .used)) (shell m i .wireEdges) (ids .shell-wire-edges i h);
+      shell-acorn-vertices = λ i h. r .shell-acorn-vertices i h ∙ sifted-all (λ j. ltb j (m .vertices .used)) (shell m i .acornVertices) (ids .shell-acorn-vertices i h);
+      face-loops = λ i h. r .face-loops i h ∙ sifted-all (λ j. ltb j (m .loops .used)) (face m i .loops) (ids .face-loops i h);
+      loop-fins = λ i h. r .loop-fins i h ∙ sifted-all (λ j. ltb j (m .fins .used)) (loop m i .fins) (ids .loop-fins i h);
+      edge-fins = λ i h. r .edge-fins i h ∙ sifted-all (λ j. ltb j (m .fins .used)) (edge m i .fins) (ids .edge-fins i h);
+      body-kind = r .body-kind;
+      region-body = r .region-body;
+      region-solid = r .region-solid;
+      shell-region = r .shell-region;
+      face-front = r .face-front;
+      face-back = r .face-back;
+      face-surface = r .face-surface;
+      face-sense = r .face-sense;
+      loop-face = r .loop-face;
+      fin-whole = r .fin-whole;
+      edge-start = r .edge-start;
+      edge-curve = r .edge-curve;
+      edge-tolerance = r .edge-tolerance;
+      vertex-whole = r .vertex-whole;
+      edge-end = r .edge-end;
+      edge-end-split = r .edge-end-split;
+    }

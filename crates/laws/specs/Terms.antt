@@ -28,6 +28,10 @@ struck n l = sifted (λ i. ltb i n) l
 abbrev pub without : ℕ → List ℕ → List ℕ
 without n l = sifted (λ i. not (eqb i n)) l
 
+-- the list itself
+abbrev pub itself : ℕ → List ℕ → List ℕ
+itself n l = l
+
 -- ---- a sequence of splits
 
 -- the edges of the accepted ones, in their order
@@ -37,8 +41,8 @@ splitEdges x m (c ∷ l) =
     let rest = splitEdges x (modelAfter x m (c .edge) (c .fraction)) l in
     cond (eqb (splitRefusal x m (c .edge) (c .fraction)) 0) (c .edge ∷ rest) rest
 
--- the model `after` has the records of m, and more; `split` are the edges that were split
-pub record Restored (m after : Model) (split : List ℕ) : Type 0 where
+-- the model `after` has the records of m, and more; `split` are the edges that were split; `start n l` is what a list l of m is, as one of ids below n
+pub record Restored (m after : Model) (split : List ℕ) (start : ℕ → List ℕ → List ℕ) : Type 0 where
   -- every old record is there
   pub bodies : after .bodies .used ≡ m .bodies .used
   pub regions : after .regions .used ≡ m .regions .used
@@ -51,14 +55,14 @@ pub record Restored (m after : Model) (split : List ℕ) : Type 0 where
   pub curves : after .curves ≡ m .curves
   pub surfaces : after .surfaces ≡ m .surfaces
   -- "Striking out what was added gives back every stored list in its starting order"
-  pub body-regions : (i : ℕ) → i < m .bodies .used → struck (m .regions .used) (body after i .regions) ≡ body m i .regions
-  pub region-shells : (i : ℕ) → i < m .regions .used → struck (m .shells .used) (region after i .shells) ≡ region m i .shells
-  pub shell-faces : (i : ℕ) → i < m .shells .used → struck (m .faces .used) (shell after i .faces) ≡ shell m i .faces
-  pub shell-wire-edges : (i : ℕ) → i < m .shells .used → struck (m .edges .used) (shell after i .wireEdges) ≡ shell m i .wireEdges
-  pub shell-acorn-vertices : (i : ℕ) → i < m .shells .used → struck (m .vertices .used) (shell after i .acornVertices) ≡ shell m i .acornVertices
-  pub face-loops : (i : ℕ) → i < m .faces .used → struck (m .loops .used) (face after i .loops) ≡ face m i .loops
-  pub loop-fins : (i : ℕ) → i < m .loops .used → struck (m .fins .used) (loop after i .fins) ≡ loop m i .fins
-  pub edge-fins : (i : ℕ) → i < m .edges .used → struck (m .fins .used) (edge after i .fins) ≡ edge m i .fins
+  pub body-regions : (i : ℕ) → i < m .bodies .used → struck (m .regions .used) (body after i .regions) ≡ start (m .regions .used) (body m i .regions)
+  pub region-shells : (i : ℕ) → i < m .regions .used → struck (m .shells .used) (region after i .shells) ≡ start (m .shells .used) (region m i .shells)
+  pub shell-faces : (i : ℕ) → i < m .shells .used → struck (m .faces .used) (shell after i .faces) ≡ start (m .faces .used) (shell m i .faces)
+  pub shell-wire-edges : (i : ℕ) → i < m .shells .used → struck (m .edges .used) (shell after i .wireEdges) ≡ start (m .edges .used) (shell m i .wireEdges)
+  pub shell-acorn-vertices : (i : ℕ) → i < m .shells .used → struck (m .vertices .used) (shell after i .acornVertices) ≡ start (m .vertices .used) (shell m i .acornVertices)
+  pub face-loops : (i : ℕ) → i < m .faces .used → struck (m .loops .used) (face after i .loops) ≡ start (m .loops .used) (face m i .loops)
+  pub loop-fins : (i : ℕ) → i < m .loops .used → struck (m .fins .used) (loop after i .fins) ≡ start (m .fins .used) (loop m i .fins)
+  pub edge-fins : (i : ℕ) → i < m .edges .used → struck (m .fins .used) (edge after i .fins) ≡ start (m .fins .used) (edge m i .fins)
   -- every other field is as it was
   pub precision : after .precision ≡ m .precision
   pub body-kind : (i : ℕ) → i < m .bodies .used → body after i .kind ≡ body m i .kind
