@@ -18,7 +18,7 @@ use Rattle.meaning.specs.Computing.{computing}
 use Rattle.meaning.specs.Model.{Model, Table, BodyKind, acorn, wire, sheet, solid, general, Sense, positive, negative, Body, Region, Shell, Face, Loop, Fin, Edge, Vertex}
 use Rattle.meaning.specs.Stone.{stone}
 use Rattle.model.specs.Layout.{base, wordsOf, realsOf}
-use Rattle.model.specs.Decode.{listAt, decode}
+use Rattle.model.specs.Decode.{listAt, shellOf, decode}
 use Rattle.model.specs.Readable.{recordOk, roomOk, countsOk, tableOk, tablesOk, sizedOk, readable}
 
 -- ---- a record as words and floats
@@ -126,3 +126,9 @@ pub stone-decodes : same (λ m. m .bodies) × same (λ m. m .regions) × same (�
     × same (λ m. m .edges) × same (λ m. m .vertices) × same (λ m. m .curves) × same (λ m. m .surfaces)
 unfolding computing decode listAt base wordsOf realsOf
 stone-decodes = (refl, refl, refl, refl, refl, refl, refl, refl, refl, refl)
+
+-- the stone has no wires and no acorns: the three lists of a shell, one after the other
+pub shell-decodes : shellOf (7 ∷ listed 512 (1 ∷ []) ++ listed 256 (2 ∷ 3 ∷ []) ++ listed 64 (4 ∷ 5 ∷ 6 ∷ []))
+    ≡ record { region = 7; faces = 1 ∷ []; wireEdges = 2 ∷ 3 ∷ []; acornVertices = 4 ∷ 5 ∷ 6 ∷ [] }
+unfolding listAt
+shell-decodes = refl
