@@ -1,5 +1,5 @@
 //! A model as plain records, with slot numbers for ids; as a term over `meaning`'s records (by the
-//! positions of Shown.antt); and as plain numbers.
+//! positions of Shown.txt); and as plain numbers.
 
 use std::fmt::Display;
 
@@ -249,7 +249,7 @@ fn rows<T>(records: &[T], numbers: impl Fn(&T) -> Vec<u64>) -> Vec<Vec<u64>> {
 }
 
 impl Plain {
-    /// All tables, record by record, as Shown.antt's `tables` has them.
+    /// All tables, record by record, as Shown.txt's `tables` has them.
     pub fn numbers(&self) -> Vec<Vec<Vec<u64>>> {
         vec![
             vec![vec![bits(self.precision)]],
