@@ -1,33 +1,29 @@
 // The test of refusal 9. A record is tested by its own words and floats.
-use crate::layout::real_stride;
 use crate::layout::reals_needed;
 use crate::layout::reals_of;
-use crate::layout::word_stride;
 use crate::layout::words_needed;
 use crate::layout::words_of;
 use vectors::vector::is_finite;
 ghost use mathlib.Core.Path.{_≡_};
 ghost use Prim.Native.Nat.{_<_, _≤_};
 ghost use mathlib.Core.List.{[]};
-ghost use lib.Dec.{leb};
 ghost use lib.ListN.{length};
-ghost use Rattle.meaning.specs.Lists.{allBelow};
 ghost use Rattle.meaning.specs.Edits.{toleranceOk, precisionOk};
 ghost use Rattle.geometry.specs.declared.tolerance.Tolerance.the-variants.{Own};
-ghost use Rattle.model.specs.Layout.{wordStrides, realStrides, largestTables, word};
+ghost use Rattle.model.specs.Layout.{wordStrides, word};
 ghost use Rattle.model.specs.Readable.{bodyOk, regionOk, shellOk, faceOk, loopOk, finOk, ownOk, edgeOk, vertexOk, carrierOk, recordOk, roomOk, countsOk, tableOk, tablesOk, sizedOk, readable};
-ghost use Rattle.model.specs.Fit.{Small, Whole, Sized};
+ghost use Rattle.model.specs.Fit.{Whole, Sized};
 
 // 01's largest tables.
 const LARGEST: [usize; 10] = [64, 128, 128, 512, 512, 4096, 2048, 2048, 2048, 512];
 
-pub fn tolerance_ok(t: f64) -> bool
+fn tolerance_ok(t: f64) -> bool
     ensures { λ r. ⌜ r ≡ toleranceOk (Own t) ⌝ }
 {
     is_finite(t) & (0.0 <= t)
 }
 
-pub fn precision_ok(p: f64) -> bool
+fn precision_ok(p: f64) -> bool
     ensures { λ r. ⌜ r ≡ precisionOk p ⌝ }
 {
     is_finite(p) & (0.0 < p)
