@@ -9,7 +9,7 @@ use mathlib.Core.List.{List, [], _∷_, _++_}
 use mathlib.Core.Option.{Option, none, some}
 use lib.ListN.{getD}
 use borrow.Author.Tests.{ltb-true, eqb-true, lt-ltb, eq-eqb}
-use Rattle.geometry.specs.Refuse.{_unless_, _then_}
+use Rattle.geometry.specs.Refuse.{_unless_, _then_, answer}
 use Rattle.meaning.specs.Lists.{allBelow, every, same}
 use Rattle.meaning.specs.Refuse.{firstRefusal, firstOf}
 use Rattle.meaning.specs.Formed.{belowMaybe, bit}
@@ -148,6 +148,11 @@ then-assoc (suc a) b c = refl
 pub unless-zero : (n : ℕ) (b : Bool) → (suc n unless b) ≡ 0 → b ≡ true
 unless-zero n true h = refl
 unless-zero n false h = absurd (omega arith)
+
+-- an enum's answer: a number that is not 0 is refused
+pub refused-answer : {B A : Type 0} (is : B → A) (refused : ℕ → A) (n : ℕ) (v : B) → (n ≡ 0 → ⊥) → refused n ≡ answer is refused n v
+refused-answer is refused zero v e = absurd (e refl)
+refused-answer is refused (suc n) v e = refl
 
 -- ---- rows of tests
 

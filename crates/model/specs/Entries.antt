@@ -28,7 +28,7 @@ unfoldable pub listOf : List ℕ → List ℕ → ℕ → ℕ → List ℕ
 listOf room w j i = listAt (wordsOf room w (word listTables j) i) (word listPlaces j)
 
 -- an entry: 9, then 1 for a list that there is none of, 2 for a missing record, 1 for a place that isn't there
-abbrev pub entryRefusal : List ℕ → List ℕ → List Float → ℕ → ℕ → ℕ → ℕ
+unfoldable pub entryRefusal : List ℕ → List ℕ → List Float → ℕ → ℕ → ℕ → ℕ
 entryRefusal room w x j i place =
     9 unless readable room w x
     then 1 unless ltb j 8

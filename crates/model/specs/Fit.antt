@@ -30,7 +30,13 @@ pub record Whole (k : ℕ) (w : List ℕ) (x : List Float) : Type 0 where
   pub words : length w ≡ word wordStrides k
   pub reals : length x ≡ word realStrides k
 
--- the capacities, the lent memory and the used counts agree
+-- the capacities and the lent memory agree
+pub record Lent (room w : List ℕ) (x : List Float) : Type 0 where
+  pub small : Small room
+  pub words : wordsNeeded room ≤ length w
+  pub reals : realsNeeded room ≤ length x
+
+-- and so do the used counts
 pub record Sized (room w : List ℕ) (x : List Float) : Type 0 where
   pub small : Small room
   pub words : wordsNeeded room ≤ length w

@@ -3,21 +3,23 @@ use Prim.Native.Nat.{ℕ, zero, suc, _+_, _*_, _≤_, _<_, zero-le}
 use mathlib.Core.Path.{_≡_, refl, ap}
 use mathlib.Core.Bool.{true, _&&_}
 use mathlib.Core.Logic.{inl, inr}
-use mathlib.Core.List.{List, []}
+use mathlib.Core.List.{List, [], _∷_}
 use native.Mathlib.Nat.{le-of-eq, le-trans, lt-of-lt-of-le, eq-or-lt-of-le, mul-suc, mul-le-mul-left, mul-le-mul-right}
 use native.Mathlib.Omega.{arith}
 use lib.Dec.{leb, ltb}
-use lib.ListN.{length, take, drop, length-drop}
+use lib.ListN.{length, getD, take, drop, length-drop}
 use lib.Seq.{length-take-le}
 use borrow.Author.Tests.{leb-true, ltb-true}
+use Rattle.geometry.specs.Refuse.{_unless_, _then_}
 use Rattle.meaning.specs.Lists.{allBelow, every}
 use Rattle.meaning.specs.Edits.{precisionOk}
-use Rattle.lists.specs.Tests.{and-both, allBelow-at}
+use Rattle.lists.specs.Tests.{and-both, every-at, allBelow-at, then-zero, unless-zero}
 use Rattle.model.specs.Layout.{wordStrides, realStrides, largestTables, word, real, base, recordAt, wordAt, realAt, wordsNeeded, realsNeeded, wordsOf, realsOf}
 use lib.Ieee.{Float}
-use Rattle.model.specs.Readable.{ownOk, recordOk, roomOk, countsOk, tableOk, tablesOk, sizedOk, readable}
-use Rattle.model.specs.Entries.{listTables, listPlaces, listLimits}
-use Rattle.model.specs.Fit.{Small, Strides, Inside, Sized, Fit, Held, Lists}
+use Rattle.model.specs.Decode.{listAt}
+use Rattle.model.specs.Readable.{ownOk, recordOk, roomOk, countsOk, tableOk, tablesOk, lentOk, sizedOk, readable}
+use Rattle.model.specs.Entries.{listTables, listPlaces, listLimits, listOf, entryRefusal}
+use Rattle.model.specs.Fit.{Small, Strides, Inside, Lent, Sized, Fit, Held, Lists}
 
 -- ---- sizes, small enough that no sum outgrows a word
 
@@ -45,7 +47,7 @@ base-le from strides room t s (suc k) h =
 
 -- ---- a record lies within the memory
 
-base-mono : (from : ℕ) (strides room : List ℕ) (k n : ℕ) → k ≤ n → base from strides room k ≤ base from strides room n
+pub base-mono : (from : ℕ) (strides room : List ℕ) (k n : ℕ) → k ≤ n → base from strides room k ≤ base from strides room n
 unfolding base
 base-mono from strides room k zero h = let e : k ≡ 0 = omega arith in le-of-eq (ap (base from strides room) e)
 base-mono from strides room k (suc n) h = elim (eq-or-lt-of-le h) [
@@ -111,19 +113,22 @@ unfolding countsOk
 counts-of room w e k h = leb-true (word w k) (word room k) (allBelow-at (λ j. leb (word w j) (word room j)) 10 k e h)
 
 -- the tests of the sizes, as facts
-pub sized-of : (room w : List ℕ) (x : List Float) → sizedOk room w x ≡ true → Sized room w x
-unfolding sizedOk every
-sized-of room w x e =
-    let a = and-both (roomOk room) (leb (wordsNeeded room) (length w) && (leb (realsNeeded room) (length x) && (countsOk room w && true))) e in
-    let b = and-both (leb (wordsNeeded room) (length w)) (leb (realsNeeded room) (length x) && (countsOk room w && true)) (a .1) in
-    let c = and-both (leb (realsNeeded room) (length x)) (countsOk room w && true) (b .1) in
-    let d = and-both (countsOk room w) true (c .1) in
+pub lent-of : (room w : List ℕ) (x : List Float) → lentOk room w x ≡ true → Lent room w x
+unfolding lentOk
+lent-of room w x e =
+    let at : (k : ℕ) → getD (roomOk room ∷ leb (wordsNeeded room) (length w) ∷ leb (realsNeeded room) (length x) ∷ []) k true ≡ true = every-at _ e in
     record {
-      small = small-of room (a .0);
-      words = leb-true (wordsNeeded room) (length w) (b .0);
-      reals = leb-true (realsNeeded room) (length x) (c .0);
-      counts = counts-of room w (d .0);
+      small = small-of room (at 0);
+      words = leb-true (wordsNeeded room) (length w) (at 1);
+      reals = leb-true (realsNeeded room) (length x) (at 2);
     }
+
+pub sized-of : (room w : List ℕ) (x : List Float) → sizedOk room w x ≡ true → Sized room w x
+unfolding sizedOk
+sized-of room w x e =
+    let a = and-both (lentOk room w x) (countsOk room w) e in
+    let b = lent-of room w x (a .0) in
+    record { small = b .small; words = b .words; reals = b .reals; counts = counts-of room w (a .1) }
 
 -- record i of table k, where it is used
 pub used-inside : (room w : List ℕ) (x : List Float) (k i : ℕ) → Sized room w x → k < 10 → i < word w k
@@ -151,7 +156,7 @@ pub list-table : (j : ℕ) → j < 8 → word listTables j < 10
 unfolding allBelow
 list-table j h = ltb-true (word listTables j) 10 (allBelow-at (λ i. ltb (word listTables i) 10) 8 j refl h)
 
-list-room : (j : ℕ) → j < 8 → word listPlaces j + word listLimits j < word wordStrides (word listTables j)
+pub list-room : (j : ℕ) → j < 8 → word listPlaces j + word listLimits j < word wordStrides (word listTables j)
 unfolding allBelow
 list-room j h =
     ltb-true (word listPlaces j + word listLimits j) (word wordStrides (word listTables j))
@@ -172,7 +177,7 @@ list-held room w j i f h g =
     record { place = omega arith; whole = omega arith }
 
 -- what a record's test says of its lists
-short-list : (j : ℕ) (w : List ℕ) (x : List Float) → j < 8 → recordOk (word listTables j) w x ≡ true → word w (word listPlaces j) ≤ word listLimits j
+pub short-list : (j : ℕ) (w : List ℕ) (x : List Float) → j < 8 → recordOk (word listTables j) w x ≡ true → word w (word listPlaces j) ≤ word listLimits j
 unfolding recordOk
 short-list zero w x h e = leb-true (word w 1) 16 (and-both (leb (word w 0) 4) (leb (word w 1) 16) e .1)
 short-list (suc zero) w x h e = leb-true (word w 2) 16 (and-both (leb (word w 1) 1) (leb (word w 2) 16) e .1)
@@ -197,4 +202,43 @@ lists-of room w x f =
       words = f .sized .words;
       counts = f .sized .counts;
       short = λ j i h g. short-list j (wordsOf room w (word listTables j) i) (realsOf room x (word listTables j) i) h (f .rows (word listTables j) i (list-table j h) g);
+    }
+
+-- a list that stands whole has as many entries as its length says
+pub held-length : (w : List ℕ) (at : ℕ) → Held w at → length (listAt w at) ≡ word w at
+unfolding listAt
+held-length w at h = length-take-le (word w at) (drop (suc at) w) (simp length-drop (omega arith))
+
+-- and no more than its limit
+pub listed-le : (room w : List ℕ) (j i : ℕ) → Lists room w → j < 8 → i < word w (word listTables j) → length (listOf room w j i) ≤ word listLimits j
+unfolding listOf
+listed-le room w j i f h g =
+    let e = held-length (wordsOf room w (word listTables j) i) (word listPlaces j) (list-held room w j i f h g) in
+    let s = f .short j i h g in
+    omega arith
+
+pub limit-le : (j : ℕ) → j < 8 → word listLimits j ≤ 1024
+unfolding allBelow
+limit-le j h = leb-true (word listLimits j) 1024 (allBelow-at (λ i. leb (word listLimits i) 1024) 8 j refl h)
+
+-- an entry that is not refused
+pub record Standing (room w : List ℕ) (x : List Float) (j i place : ℕ) : Type 0 where
+  pub fit : Fit room w x
+  pub list : j < 8
+  pub record-there : i < word w (word listTables j)
+  pub entry : place < length (listOf room w j i)
+
+pub entry-standing : (room w : List ℕ) (x : List Float) (j i place : ℕ) → entryRefusal room w x j i place ≡ 0 → Standing room w x j i place
+unfolding entryRefusal
+entry-standing room w x j i place e =
+    let t : ℕ = word w (word listTables j) in
+    let n : ℕ = length (listOf room w j i) in
+    let a = then-zero (9 unless readable room w x) (1 unless ltb j 8 then 2 unless ltb i t then 1 unless ltb place n) e in
+    let b = then-zero (1 unless ltb j 8) (2 unless ltb i t then 1 unless ltb place n) (a .1) in
+    let c = then-zero (2 unless ltb i t) (1 unless ltb place n) (b .1) in
+    record {
+      fit = fit-of room w x (unless-zero 8 (readable room w x) (a .0));
+      list = ltb-true j 8 (unless-zero 0 (ltb j 8) (b .0));
+      record-there = ltb-true i t (unless-zero 1 (ltb i t) (c .0));
+      entry = ltb-true place n (unless-zero 0 (ltb place n) (c .1));
     }

@@ -80,10 +80,13 @@ tableOk room w x k = allBelow (λ i. recordOk k (wordsOf room w k i) (realsOf ro
 unfoldable pub tablesOk : List ℕ → List ℕ → List Float → Bool
 tablesOk room w x = allBelow (tableOk room w x) 10
 
--- the capacities, the lent memory and the used counts agree
+-- the capacities and the lent memory agree
+unfoldable pub lentOk : List ℕ → List ℕ → List Float → Bool
+lentOk room w x = every (roomOk room ∷ leb (wordsNeeded room) (length w) ∷ leb (realsNeeded room) (length x) ∷ [])
+
+-- and so do the used counts
 unfoldable pub sizedOk : List ℕ → List ℕ → List Float → Bool
-sizedOk room w x =
-    every (roomOk room ∷ leb (wordsNeeded room) (length w) ∷ leb (realsNeeded room) (length x) ∷ countsOk room w ∷ [])
+sizedOk room w x = lentOk room w x && countsOk room w
 
 unfoldable pub readable : List ℕ → List ℕ → List Float → Bool
 readable room w x = sizedOk room w x && precisionOk (real x 0) && tablesOk room w x

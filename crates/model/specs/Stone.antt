@@ -19,7 +19,7 @@ use Rattle.meaning.specs.Model.{Model, Table, BodyKind, acorn, wire, sheet, sol
 use Rattle.meaning.specs.Stone.{stone}
 use Rattle.model.specs.Layout.{base, wordsOf, realsOf}
 use Rattle.model.specs.Decode.{listAt, shellOf, decode}
-use Rattle.model.specs.Readable.{recordOk, roomOk, countsOk, tableOk, tablesOk, sizedOk, readable}
+use Rattle.model.specs.Readable.{recordOk, roomOk, countsOk, tableOk, tablesOk, lentOk, sizedOk, readable}
 
 -- ---- a record as words and floats
 
@@ -119,7 +119,7 @@ abbrev same : {A : Type 0} → (Model → Table A) → Type 0
 same t = map (t read .slot) (run 0 (t read .used)) ≡ map (t stone .slot) (run 0 (t stone .used))
 
 pub stone-readable : readable (rooms stone) (words stone) (reals stone) ≡ true
-unfolding computing readable sizedOk roomOk countsOk tablesOk tableOk recordOk base wordsOf realsOf
+unfolding computing readable sizedOk lentOk roomOk countsOk tablesOk tableOk recordOk base wordsOf realsOf
 stone-readable = refl
 
 pub stone-decodes : same (λ m. m .bodies) × same (λ m. m .regions) × same (λ m. m .shells) × same (λ m. m .faces) × same (λ m. m .loops) × same (λ m. m .fins)

@@ -5,18 +5,41 @@ ghost use mathlib.Core.Path.{_≡_};
 ghost use Prim.Native.Nat.{_<_, _≤_};
 ghost use Rattle.model.specs.Layout.{word};
 ghost use Rattle.model.specs.Decode.{listAt};
-ghost use Rattle.model.specs.Entries.{listTables, listPlaces, listOf, entryAnswer};
+ghost use Rattle.model.specs.Entries.{listTables, listPlaces, listLimits, listOf, entryRefusal, entryAnswer};
 ghost use Rattle.model.specs.Fit.{Held, Lists};
 
-// The table whose records have the list, and where in the record it stands.
 const TABLES: [usize; 8] = [0, 1, 2, 2, 2, 3, 4, 6];
 
 const PLACES: [usize; 8] = [1, 2, 1, 514, 771, 7, 1, 7];
+
+const LIMITS: [usize; 8] = [16, 16, 512, 256, 64, 16, 1024, 8];
 
 // An entry, or the refusal's number.
 pub enum Entry {
     Is(u32),
     Refused(u32),
+}
+
+// The table whose records have the list, where in the record it stands, and how long it may be.
+pub fn list_table(j: usize) -> usize
+    requires { ⌜ j < 8 ⌝ }
+    ensures { λ r. ⌜ r ≡ word listTables j ⌝ }
+{
+    TABLES[j]
+}
+
+pub fn list_place(j: usize) -> usize
+    requires { ⌜ j < 8 ⌝ }
+    ensures { λ r. ⌜ r ≡ word listPlaces j ⌝ }
+{
+    PLACES[j]
+}
+
+pub fn list_limit(j: usize) -> usize
+    requires { ⌜ j < 8 ⌝ }
+    ensures { λ r. ⌜ r ≡ word listLimits j ⌝ }
+{
+    LIMITS[j]
 }
 
 // The list at a place of a record: its length, then its entries.
@@ -39,8 +62,34 @@ pub fn list<'a>(room: &[usize; 10], words: &'a [u32], j: usize, i: usize) -> &'a
     list_at(words_of(room, words, TABLES[j], i), PLACES[j])
 }
 
-// The entry at a place of list j of record i: 9; 1 for a list that there is none of; 2 for a missing record; 1 for a place
-// that is not there.
+// Why there is no entry at a place of list j of record i, else 0: 9; 1 for a list that there is none of; 2 for a missing record;
+// 1 for a place that is not there.
+pub fn entry_refusal(
+    room: &[usize; 10],
+    words: &[u32],
+    reals: &[f64],
+    j: usize,
+    i: usize,
+    place: usize,
+) -> u32
+    ensures { λ r. ⌜ r ≡ entryRefusal (now (room .entry)) (now (words .entry)) (now (reals .entry)) j i place ⌝ }
+{
+    if !readable(room, words, reals) {
+        return 9;
+    }
+    if 8 <= j {
+        return 1;
+    }
+    if words[TABLES[j]] as usize <= i {
+        return 2;
+    }
+    if list(room, words, j, i).len() <= place {
+        return 1;
+    }
+    0
+}
+
+// The entry at a place of list j of record i.
 pub fn list_entry(
     room: &[usize; 10],
     words: &[u32],
@@ -51,18 +100,9 @@ pub fn list_entry(
 ) -> Entry
     ensures { λ r. ⌜ r ≡ entryAnswer (now (room .entry)) (now (words .entry)) (now (reals .entry)) j i place ⌝ }
 {
-    if !readable(room, words, reals) {
-        return Entry::Refused(9);
+    let n = entry_refusal(room, words, reals, j, i, place);
+    if n != 0 {
+        return Entry::Refused(n);
     }
-    if 8 <= j {
-        return Entry::Refused(1);
-    }
-    if words[TABLES[j]] as usize <= i {
-        return Entry::Refused(2);
-    }
-    let entries = list(room, words, j, i);
-    if entries.len() <= place {
-        return Entry::Refused(1);
-    }
-    Entry::Is(entries[place])
+    Entry::Is(list(room, words, j, i)[place])
 }

@@ -11,19 +11,19 @@ ghost use lib.ListN.{length};
 ghost use Rattle.meaning.specs.Edits.{toleranceOk, precisionOk};
 ghost use Rattle.geometry.specs.declared.tolerance.Tolerance.the-variants.{Own};
 ghost use Rattle.model.specs.Layout.{wordStrides, word};
-ghost use Rattle.model.specs.Readable.{bodyOk, regionOk, shellOk, faceOk, loopOk, finOk, ownOk, edgeOk, vertexOk, carrierOk, recordOk, roomOk, countsOk, tableOk, tablesOk, sizedOk, readable};
+ghost use Rattle.model.specs.Readable.{bodyOk, regionOk, shellOk, faceOk, loopOk, finOk, ownOk, edgeOk, vertexOk, carrierOk, recordOk, roomOk, countsOk, tableOk, tablesOk, lentOk, sizedOk, readable};
 ghost use Rattle.model.specs.Fit.{Whole, Sized};
 
 // 01's largest tables.
 const LARGEST: [usize; 10] = [64, 128, 128, 512, 512, 4096, 2048, 2048, 2048, 512];
 
-fn tolerance_ok(t: f64) -> bool
+pub fn tolerance_ok(t: f64) -> bool
     ensures { λ r. ⌜ r ≡ toleranceOk (Own t) ⌝ }
 {
     is_finite(t) & (0.0 <= t)
 }
 
-fn precision_ok(p: f64) -> bool
+pub fn precision_ok(p: f64) -> bool
     ensures { λ r. ⌜ r ≡ precisionOk p ⌝ }
 {
     is_finite(p) & (0.0 < p)
@@ -186,9 +186,9 @@ fn counts_ok(room: &[usize; 10], words: &[u32]) -> bool
     ok
 }
 
-// Do the capacities, the lent memory and the used counts agree?
-fn sized(room: &[usize; 10], words: &[u32], reals: &[f64]) -> bool
-    ensures { λ r. ⌜ r ≡ sizedOk (now (room .entry)) (now (words .entry)) (now (reals .entry)) ⌝ }
+// Do the capacities and the lent memory agree?
+pub fn lent(room: &[usize; 10], words: &[u32], reals: &[f64]) -> bool
+    ensures { λ r. ⌜ r ≡ lentOk (now (room .entry)) (now (words .entry)) (now (reals .entry)) ⌝ }
 {
     if !room_ok(room) {
         return false;
@@ -196,7 +196,14 @@ fn sized(room: &[usize; 10], words: &[u32], reals: &[f64]) -> bool
     if words.len() < words_needed(room) {
         return false;
     }
-    if reals.len() < reals_needed(room) {
+    reals_needed(room) <= reals.len()
+}
+
+// And so do the used counts?
+fn sized(room: &[usize; 10], words: &[u32], reals: &[f64]) -> bool
+    ensures { λ r. ⌜ r ≡ sizedOk (now (room .entry)) (now (words .entry)) (now (reals .entry)) ⌝ }
+{
+    if !lent(room, words, reals) {
         return false;
     }
     counts_ok(room, words)

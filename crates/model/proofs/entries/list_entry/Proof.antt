@@ -1,154 +1,79 @@
--- `model::entries::list_entry` meets its contract: each way out is the first test that fails. Assumes nothing.
-use Prim.Native.Nat.{ℕ}
+-- `model::entries::list_entry` meets its contract. Assumes nothing.
+use Prim.Native.Nat.{ℕ, _<_}
 use mathlib.Core.Path.{_≡_, sym, ap, _∙_}
-use mathlib.Core.Bool.{true, false}
 use mathlib.Core.List.{List}
 use native.Mathlib.Omega.{arith}
-use borrow.Author.Tests.{not-true, not-false, lt-ltb, le-ltb}
-use lib.Dec.{ltb}
 use lib.ListN.{length}
-use Rattle.model.specs.declared.entries.Entry.the-variants.{Is}
-use Rattle.model.specs.Layout.{wordStrides, word}
-use Rattle.model.specs.Readable.{readable}
-use Rattle.model.specs.Entries.{listTables, listOf, entryAnswer}
-use Rattle.model.specs.Laws.{before-tables, list-table, fit-of, lists-of}
+use Rattle.lists.specs.Tests.{refused-answer}
+use Rattle.model.specs.declared.entries.Entry.the-variants.{Is, Refused}
+use Rattle.model.specs.Layout.{word}
+use Rattle.model.specs.Entries.{listOf, entryRefusal, entryAnswer}
+use Rattle.model.specs.Laws.{lists-of, listed-le, limit-le, entry-standing}
 use borrow.Author.Needs.{needs}
 use Rattle.model.proofs.entries.list_entry.Statement.{statement}
 use Rattle.model.proofs.entries.list_entry.Tie as tie
 
-readable-requires : tie.Need-readable-requires
-readable-requires c κs = search needs
+entry-refusal-requires : tie.Need-entry-refusal-requires
+entry-refusal-requires c κs = search needs
 
 returns : tie.Need-returns
 unfolding entryAnswer
 returns c =
+    let e = c .before .entry-refusal .ensures in
+    rw (← e) (refused-answer Is Refused (c .before .entry-refusal .result) _ (c .if1 .taken))
+
+list-requires : tie.Need-list-requires
+list-requires c κs =
     let s = c .before .before .before .before in
     let r = s .args .room .now in
     let w = s .args .words .now in
     let x = s .args .reals .now in
     let j = s .args .j in
     let i = s .args .i in
-    let e : readable r w x ≡ false = sym (c .before .readable .ensures) ∙ not-true (c .before .readable .result) (c .if1 .taken) in
-    rw e
+    let z : entryRefusal r w x j i (s .args .place) ≡ 0 = sym (c .before .entry-refusal .ensures) ∙ c .if1 .left in
+    let t = entry-standing r w x j i (s .args .place) z in
+    (lists-of r w x (t .fit), (t .list, t .record-there))
 
-returns-2 : tie.Need-returns-2
-unfolding entryAnswer
-returns-2 c =
+mul-t10 : tie.Need-mul-t10
+mul-t10 c =
     let s = c .before .before .before .before .before in
     let r = s .args .room .now in
     let w = s .args .words .now in
     let x = s .args .reals .now in
     let j = s .args .j in
     let i = s .args .i in
-    let e : readable r w x ≡ true = sym (c .before .before .readable .ensures) ∙ not-false (c .before .before .readable .result) (c .before .if1 .left) in
-    let f : ltb j 8 ≡ false = le-ltb j 8 (c .if2 .taken) in
-    rw (e, f)
-
-mul-if3 : tie.Need-mul-if3
-mul-if3 c = search needs
-
-array-read-if3 : tie.Need-array-read-if3
-array-read-if3 c = search needs
-
-mul-if3-2 : tie.Need-mul-if3-2
-mul-if3-2 c =
-    let t = list-table (c .before .before .before .before .before .args .j) (c .if2 .left) in
+    let z : entryRefusal r w x j i (s .args .place) ≡ 0 = sym (c .before .before .entry-refusal .ensures) ∙ c .before .if1 .left in
+    let t = entry-standing r w x j i (s .args .place) z in
+    let h = t .entry in
+    let l = listed-le r w j i (lists-of r w x (t .fit)) (t .list) (t .record-there) in
+    let m = limit-le j (t .list) in
     record { fits = omega arith }
 
-shared-slice-read-if3 : tie.Need-shared-slice-read-if3
-shared-slice-read-if3 c =
+shared-slice-read-t12 : tie.Need-shared-slice-read-t12
+shared-slice-read-t12 c =
     let s = c .before .before .before .before .before .before in
     let r = s .args .room .now in
     let w = s .args .words .now in
     let x = s .args .reals .now in
     let j = s .args .j in
     let i = s .args .i in
-    let e : readable r w x ≡ true = sym (c .before .before .before .readable .ensures) ∙ not-false (c .before .before .before .readable .result) (c .before .before .if1 .left) in
-    let t = list-table j (c .before .if2 .left) in
-    let z = fit-of r w x e .sized .words in
-    let f = before-tables 10 wordStrides r 10 in
-    omega arith
+    let z : entryRefusal r w x j i (s .args .place) ≡ 0 = sym (c .before .before .before .entry-refusal .ensures) ∙ c .before .before .if1 .left in
+    let t : s .args .place < length (listOf r w j i) = entry-standing r w x j i (s .args .place) z .entry in
+    rw (c .before .list .ensures) t
 
-cast-if3 : tie.Need-cast-if3
-cast-if3 c =
-    omega (arith, c .shared-slice-known3 .given (word listTables (c .before .before .before .before .before .before .args .j)))
-
-returns-3 : tie.Need-returns-3
+returns-2 : tie.Need-returns-2
 unfolding entryAnswer
-returns-3 c =
-    let s = c .before .before .before .before .before .before .before in
+returns-2 c =
+    let s = c .before .before .before .before .before .before in
     let r = s .args .room .now in
     let w = s .args .words .now in
     let x = s .args .reals .now in
     let j = s .args .j in
     let i = s .args .i in
-    let e : readable r w x ≡ true = sym (c .before .before .before .before .readable .ensures) ∙ not-false (c .before .before .before .before .readable .result) (c .before .before .before .if1 .left) in
-    let f : ltb j 8 ≡ true = lt-ltb j 8 (c .before .before .if2 .left) in
-    let g : ltb i (word w (word listTables j)) ≡ false = le-ltb i (word w (word listTables j)) (c .if3 .taken) in
-    rw (e, f, g)
-
-list-requires : tie.Need-list-requires
-list-requires c κs =
-    let s = c .before .before .before .before .before .before .before in
-    let r = s .args .room .now in
-    let w = s .args .words .now in
-    let x = s .args .reals .now in
-    let j = s .args .j in
-    let i = s .args .i in
-    let e : readable r w x ≡ true = sym (c .before .before .before .before .readable .ensures) ∙ not-false (c .before .before .before .before .readable .result) (c .before .before .before .if1 .left) in
-    (lists-of r w x (fit-of r w x e), (c .before .before .if2 .left, c .if3 .left))
-
-returns-4 : tie.Need-returns-4
-unfolding entryAnswer
-returns-4 c =
-    let s = c .before .before .before .before .before .before .before .before .before in
-    let r = s .args .room .now in
-    let w = s .args .words .now in
-    let x = s .args .reals .now in
-    let j = s .args .j in
-    let i = s .args .i in
-    let e : readable r w x ≡ true = sym (c .before .before .before .before .before .before .readable .ensures) ∙ not-false (c .before .before .before .before .before .before .readable .result) (c .before .before .before .before .before .if1 .left) in
-    let f : ltb j 8 ≡ true = lt-ltb j 8 (c .before .before .before .before .if2 .left) in
-    let g : ltb i (word w (word listTables j)) ≡ true = lt-ltb i (word w (word listTables j)) (c .before .before .if3 .left) in
-    let h : ltb (s .args .place) (length (listOf r w j i)) ≡ false = le-ltb (s .args .place) (length (listOf r w j i)) (rw (c .before .list .ensures) at (c .if4 .taken)) in
-    rw (e, f, g, h)
-
-mul-t18 : tie.Need-mul-t18
-mul-t18 c = search needs
-
-shared-slice-read-t17 : tie.Need-shared-slice-read-t17
-shared-slice-read-t17 c = search needs
-
-returns-5 : tie.Need-returns-5
-unfolding entryAnswer
-returns-5 c =
-    let s = c .before .before .before .before .before .before .before .before .before .before in
-    let r = s .args .room .now in
-    let w = s .args .words .now in
-    let x = s .args .reals .now in
-    let j = s .args .j in
-    let i = s .args .i in
-    let e : readable r w x ≡ true = sym (c .before .before .before .before .before .before .before .readable .ensures) ∙ not-false (c .before .before .before .before .before .before .before .readable .result) (c .before .before .before .before .before .before .if1 .left) in
-    let f : ltb j 8 ≡ true = lt-ltb j 8 (c .before .before .before .before .before .if2 .left) in
-    let g : ltb i (word w (word listTables j)) ≡ true = lt-ltb i (word w (word listTables j)) (c .before .before .before .if3 .left) in
-    let h : ltb (s .args .place) (length (listOf r w j i)) ≡ true = lt-ltb (s .args .place) (length (listOf r w j i)) (rw (c .before .before .list .ensures) at (c .before .if4 .left)) in
-    rw (e, f, g, h) (ap (λ (l : List ℕ). Is (word l (s .args .place))) (c .before .before .list .ensures))
+    let z : entryRefusal r w x j i (s .args .place) ≡ 0 = sym (c .before .before .before .entry-refusal .ensures) ∙ c .before .before .if1 .left in
+    rw z (ap (λ (l : List ℕ). Is (word l (s .args .place))) (c .before .list .ensures))
 
 pub list-entry-spec : {M : Type 1} → statement M
 list-entry-spec =
     tie.close
-    (tie.spec
-    readable-requires
-    returns
-    returns-2
-    mul-if3
-    array-read-if3
-    mul-if3-2
-    shared-slice-read-if3
-    cast-if3
-    returns-3
-    list-requires
-    returns-4
-    mul-t18
-    shared-slice-read-t17
-    returns-5)
+    (tie.spec entry-refusal-requires returns list-requires mul-t10 shared-slice-read-t12 returns-2)

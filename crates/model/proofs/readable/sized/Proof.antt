@@ -1,75 +1,42 @@
 -- `model::readable::sized` meets its contract: each way out is the first test that fails. Assumes nothing.
 use mathlib.Core.Path.{_≡_, sym, _∙_}
-use mathlib.Core.Bool.{true, false, and-true}
+use mathlib.Core.Bool.{true, false}
 use native.Mathlib.Omega.{arith}
-use borrow.Author.Tests.{not-true, not-false, lt-leb, le-leb}
-use lib.Dec.{leb}
-use lib.ListN.{length}
-use Rattle.meaning.specs.Lists.{every}
-use Rattle.model.specs.Layout.{wordStrides, wordsNeeded, realsNeeded}
-use Rattle.model.specs.Readable.{roomOk, sizedOk}
-use Rattle.model.specs.Laws.{small-of, before-tables}
+use borrow.Author.Tests.{not-true, not-false}
+use Rattle.lists.specs.Tests.{shut, opened}
+use Rattle.model.specs.Layout.{wordStrides}
+use Rattle.model.specs.Readable.{lentOk, countsOk, sizedOk}
+use Rattle.model.specs.Laws.{lent-of, before-tables}
 use borrow.Author.Needs.{needs}
 use Rattle.model.proofs.readable.sized.Statement.{statement}
 use Rattle.model.proofs.readable.sized.Tie as tie
 
-room-ok-requires : tie.Need-room-ok-requires
-room-ok-requires c κs = search needs
+lent-requires : tie.Need-lent-requires
+lent-requires c κs = search needs
 
 returns : tie.Need-returns
-unfolding sizedOk every
+unfolding sizedOk
 returns c =
-    let a : roomOk (c .before .before .before .before .args .room .now) ≡ false = sym (c .before .room-ok .ensures) ∙ not-true (c .before .room-ok .result) (c .if1 .taken) in
-    rw a
-
-words-needed-requires : tie.Need-words-needed-requires
-words-needed-requires c κs = small-of (c .before .before .before .before .args .room .now) (sym (c .before .room-ok .ensures) ∙ not-false (c .before .room-ok .result) (c .if1 .left))
-
-returns-2 : tie.Need-returns-2
-unfolding sizedOk every
-returns-2 c =
-    let s = c .before .before .before .before .before .before in
-    let a : roomOk (s .args .room .now) ≡ true = sym (c .before .before .before .room-ok .ensures) ∙ not-false (c .before .before .before .room-ok .result) (c .before .before .if1 .left) in
-    let w : leb (wordsNeeded (s .args .room .now)) (length (s .args .words .now)) ≡ false = lt-leb _ _ (rw (c .before .words-needed .ensures) at (c .if2 .taken)) in
-    rw (a, w)
-
-reals-needed-requires : tie.Need-reals-needed-requires
-reals-needed-requires c κs = small-of (c .before .before .before .before .before .before .args .room .now) (sym (c .before .before .before .room-ok .ensures) ∙ not-false (c .before .before .before .room-ok .result) (c .before .before .if1 .left))
-
-returns-3 : tie.Need-returns-3
-unfolding sizedOk every
-returns-3 c =
-    let s = c .before .before .before .before .before .before .before .before in
-    let a : roomOk (s .args .room .now) ≡ true = sym (c .before .before .before .before .before .room-ok .ensures) ∙ not-false (c .before .before .before .before .before .room-ok .result) (c .before .before .before .before .if1 .left) in
-    let w : leb (wordsNeeded (s .args .room .now)) (length (s .args .words .now)) ≡ true = le-leb _ _ (rw (c .before .before .before .words-needed .ensures) at (c .before .before .if2 .left)) in
-    let x : leb (realsNeeded (s .args .room .now)) (length (s .args .reals .now)) ≡ false = lt-leb _ _ (rw (c .before .reals-needed .ensures) at (c .if3 .taken)) in
-    rw (a, w, x)
+    let s = c .before .before .before .before in
+    let a = sym (c .before .lent .ensures) ∙ not-true (c .before .lent .result) (c .if1 .taken) in
+    shut (lentOk (s .args .room .now) (s .args .words .now) (s .args .reals .now)) (countsOk (s .args .room .now) (s .args .words .now)) a
 
 counts-ok-requires : tie.Need-counts-ok-requires
 counts-ok-requires c κs =
-    let s = c .before .before .before .before .before .before .before .before in
-    let f = before-tables 10 wordStrides (s .args .room .now) 10 in
-    let e = c .before .before .before .words-needed .ensures in
-    omega (arith, c .before .before .if2 .left)
+    let s = c .before .before .before .before in
+    let r = s .args .room .now in
+    let a = sym (c .before .lent .ensures) ∙ not-false (c .before .lent .result) (c .if1 .left) in
+    let b = lent-of r (s .args .words .now) (s .args .reals .now) a .words in
+    let f = before-tables 10 wordStrides r 10 in
+    omega arith
 
-returns-4 : tie.Need-returns-4
-unfolding sizedOk every
-returns-4 c =
-    let s = c .before .before .before .before .before .before .before .before .before in
-    let a : roomOk (s .args .room .now) ≡ true = sym (c .before .before .before .before .before .before .room-ok .ensures) ∙ not-false (c .before .before .before .before .before .before .room-ok .result) (c .before .before .before .before .before .if1 .left) in
-    let w : leb (wordsNeeded (s .args .room .now)) (length (s .args .words .now)) ≡ true = le-leb _ _ (rw (c .before .before .before .before .words-needed .ensures) at (c .before .before .before .if2 .left)) in
-    let x : leb (realsNeeded (s .args .room .now)) (length (s .args .reals .now)) ≡ true = le-leb _ _ (rw (c .before .before .reals-needed .ensures) at (c .before .if3 .left)) in
-    rw (a, w, x, and-true) (c .counts-ok .ensures)
+returns-2 : tie.Need-returns-2
+unfolding sizedOk
+returns-2 c =
+    let s = c .before .before .before .before .before in
+    let a = sym (c .before .before .lent .ensures) ∙ not-false (c .before .before .lent .result) (c .before .if1 .left) in
+    opened (lentOk (s .args .room .now) (s .args .words .now) (s .args .reals .now)) (countsOk (s .args .room .now) (s .args .words .now)) _ a
+    (c .counts-ok .ensures)
 
 pub sized-spec : {M : Type 1} → statement M
-sized-spec =
-    tie.close
-    (tie.spec
-    room-ok-requires
-    returns
-    words-needed-requires
-    returns-2
-    reals-needed-requires
-    returns-3
-    counts-ok-requires
-    returns-4)
+sized-spec = tie.close (tie.spec lent-requires returns counts-ok-requires returns-2)
