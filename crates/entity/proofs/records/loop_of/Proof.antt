@@ -1,0 +1,19 @@
+-- `entity::records::loop_of` meets its contract. Assumes nothing.
+use Rattle.entity.specs.Seen.{seenLoop}
+use Rattle.model.specs.Laws.{held-length}
+use borrow.Author.Needs.{needs}
+use Rattle.entity.proofs.records.loop_of.Statement.{statement}
+use Rattle.entity.proofs.records.loop_of.Tie as tie
+
+shared-slice-read-t3 : tie.Need-shared-slice-read-t3
+shared-slice-read-t3 c = search needs
+
+shared-slice-read-t5 : tie.Need-shared-slice-read-t5
+shared-slice-read-t5 c = search needs
+
+returns : tie.Need-returns
+unfolding seenLoop
+returns c = rw (held-length (c .before .before .args .w .now) 1 (c .before .before .pre))
+
+pub loop-of-spec : {M : Type 1} → statement M
+loop-of-spec = tie.close (tie.spec shared-slice-read-t3 shared-slice-read-t5 returns)

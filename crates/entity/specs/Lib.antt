@@ -1,0 +1,4 @@
+pub mod Seen
+pub mod Lookup
+pub mod Inner
+pub mod Laws

@@ -1,0 +1,118 @@
+// Record i of each table, read off the lent memory.
+use crate::records::Body;
+use crate::records::Edge;
+use crate::records::Face;
+use crate::records::Fin;
+use crate::records::Loop;
+use crate::records::Region;
+use crate::records::Shell;
+use crate::records::Vertex;
+use crate::records::body_of;
+use crate::records::carrier_of;
+use crate::records::edge_of;
+use crate::records::face_of;
+use crate::records::fin_of;
+use crate::records::loop_of;
+use crate::records::region_of;
+use crate::records::shell_of;
+use crate::records::vertex_of;
+use model::layout::reals_of;
+use model::layout::words_of;
+use store::Carrier;
+use store::Found;
+ghost use mathlib.Core.Path.{_≡_};
+ghost use Prim.Native.Nat.{_<_};
+ghost use mathlib.Core.List.{List};
+ghost use lib.Ieee.{Float};
+ghost use Rattle.meaning.specs.Model.{body, region, shell, face, loop, fin, edge, vertex, carrierAt};
+ghost use Rattle.model.specs.Layout.{word};
+ghost use Rattle.model.specs.Decode.{table, carrierOf, decode};
+ghost use Rattle.model.specs.Fit.{Sized, Fit, Lists};
+ghost use Rattle.entity.specs.Seen.{seenBody, seenRegion, seenShell, seenFace, seenLoop, seenFin, seenEdge, seenVertex};
+
+// The first six tables have no floats: the promise holds whatever the floats are.
+pub fn body_at(room: &[usize; 10], words: &[u32], i: usize) -> Body
+    requires { ⌜ Lists (now room) (now words) ⌝ }
+    requires { ⌜ i < word (now words) 0 ⌝ }
+    ensures { λ r. ⌜ ((x : List Float) → r ≡ seenBody (body (decode (now (room .entry)) (now (words .entry)) x) i)) ⌝ }
+{
+    body_of(words_of(room, words, 0, i))
+}
+
+pub fn region_at(room: &[usize; 10], words: &[u32], i: usize) -> Region
+    requires { ⌜ Lists (now room) (now words) ⌝ }
+    requires { ⌜ i < word (now words) 1 ⌝ }
+    ensures { λ r. ⌜ ((x : List Float) → r ≡ seenRegion (region (decode (now (room .entry)) (now (words .entry)) x) i)) ⌝ }
+{
+    region_of(words_of(room, words, 1, i))
+}
+
+pub fn shell_at(room: &[usize; 10], words: &[u32], i: usize) -> Shell
+    requires { ⌜ Lists (now room) (now words) ⌝ }
+    requires { ⌜ i < word (now words) 2 ⌝ }
+    ensures { λ r. ⌜ ((x : List Float) → r ≡ seenShell (shell (decode (now (room .entry)) (now (words .entry)) x) i)) ⌝ }
+{
+    shell_of(words_of(room, words, 2, i))
+}
+
+pub fn face_at(room: &[usize; 10], words: &[u32], i: usize) -> Face
+    requires { ⌜ Lists (now room) (now words) ⌝ }
+    requires { ⌜ i < word (now words) 3 ⌝ }
+    ensures { λ r. ⌜ ((x : List Float) → r ≡ seenFace (face (decode (now (room .entry)) (now (words .entry)) x) i)) ⌝ }
+{
+    face_of(words_of(room, words, 3, i))
+}
+
+pub fn loop_at(room: &[usize; 10], words: &[u32], i: usize) -> Loop
+    requires { ⌜ Lists (now room) (now words) ⌝ }
+    requires { ⌜ i < word (now words) 4 ⌝ }
+    ensures { λ r. ⌜ ((x : List Float) → r ≡ seenLoop (loop (decode (now (room .entry)) (now (words .entry)) x) i)) ⌝ }
+{
+    loop_of(words_of(room, words, 4, i))
+}
+
+pub fn fin_at(room: &[usize; 10], words: &[u32], i: usize) -> Fin
+    requires { ⌜ Lists (now room) (now words) ⌝ }
+    requires { ⌜ i < word (now words) 5 ⌝ }
+    ensures { λ r. ⌜ ((x : List Float) → r ≡ seenFin (fin (decode (now (room .entry)) (now (words .entry)) x) i)) ⌝ }
+{
+    fin_of(words_of(room, words, 5, i))
+}
+
+pub fn edge_at(room: &[usize; 10], words: &[u32], reals: &[f64], i: usize) -> Edge
+    requires { ⌜ Fit (now room) (now words) (now reals) ⌝ }
+    requires { ⌜ i < word (now words) 6 ⌝ }
+    ensures { λ r. ⌜ r ≡ seenEdge (edge (decode (now (room .entry)) (now (words .entry)) (now (reals .entry))) i) ⌝ }
+{
+    edge_of(words_of(room, words, 6, i), reals_of(room, reals, 6, i))
+}
+
+pub fn vertex_at(room: &[usize; 10], words: &[u32], reals: &[f64], i: usize) -> Vertex
+    requires { ⌜ Sized (now room) (now words) (now reals) ⌝ }
+    requires { ⌜ i < word (now words) 7 ⌝ }
+    ensures { λ r. ⌜ r ≡ seenVertex (vertex (decode (now (room .entry)) (now (words .entry)) (now (reals .entry))) i) ⌝ }
+{
+    vertex_of(words_of(room, words, 7, i), reals_of(room, reals, 7, i))
+}
+
+// Record i of table k, the curves or the surfaces.
+pub fn carrier_at(room: &[usize; 10], words: &[u32], reals: &[f64], k: usize, i: usize) -> Carrier
+    requires { ⌜ Sized (now room) (now words) (now reals) ⌝ }
+    requires { ⌜ (7 < k) × (k < 10) ⌝ }
+    requires { ⌜ i < word (now words) k ⌝ }
+    ensures { λ r. ⌜ r ≡ table (now (room .entry)) (now (words .entry)) (now (reals .entry)) k carrierOf .slot i ⌝ }
+{
+    carrier_of(words_of(room, words, k, i), reals_of(room, reals, k, i))
+}
+
+// What table k has under an id, which the queries of `store` are asked about.
+pub fn found(room: &[usize; 10], words: &[u32], reals: &[f64], k: usize, id: usize) -> Found
+    requires { ⌜ Sized (now room) (now words) (now reals) ⌝ }
+    requires { ⌜ (7 < k) × (k < 10) ⌝ }
+    ensures { λ r. ⌜ r ≡ carrierAt (table (now (room .entry)) (now (words .entry)) (now (reals .entry)) k carrierOf) id ⌝ }
+{
+    if words[k] as usize <= id {
+        return Found::Missing;
+    }
+    Found::There(carrier_at(room, words, reals, k, id))
+}
