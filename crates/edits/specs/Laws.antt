@@ -1,0 +1,39 @@
+-- The tests of an insert and of an edit, as facts. Assumes nothing.
+use Prim.Native.Nat.{ℕ, _<_}
+use mathlib.Core.Path.{_≡_, refl, sym, _∙_}
+use mathlib.Core.Bool.{Bool, true, false}
+use mathlib.Core.List.{List}
+use lib.Dec.{ltb}
+use lib.Ieee.{Float}
+use borrow.Author.Tests.{ltb-true, lt-ltb, le-ltb}
+use Rattle.geometry.specs.Refuse.{_unless_, _then_}
+use Rattle.meaning.specs.Edits.{precisionOk}
+use Rattle.lists.specs.Tests.{then-zero, unless-zero}
+use Rattle.model.specs.Layout.{word}
+use Rattle.model.specs.Readable.{lentOk, readable}
+use Rattle.model.specs.Fit.{Lent, Fit}
+use Rattle.model.specs.Laws.{lent-of, fit-of}
+use Rattle.edits.specs.Answers.{makeNumber, insertNumber, editNumber}
+
+module _ (room w : List ℕ) (x : List Float) where
+  -- a model is made
+  pub make-open : (p : Float) → makeNumber room w x p ≡ 0 → Lent room w x
+  unfolding makeNumber
+  make-open p e = lent-of room w x (unless-zero 8 (lentOk room w x) (then-zero (9 unless lentOk room w x) (1 unless precisionOk p) e .0))
+
+  -- a record is inserted
+  pub insert-open : (ok : Bool) (k : ℕ) → insertNumber room w x ok k ≡ 0 → Fit room w x × (word w k < word room k)
+  unfolding insertNumber
+  insert-open ok k e =
+      let a = then-zero (9 unless readable room w x) (1 unless ok then 8 unless ltb (word w k) (word room k)) e in
+      let b = then-zero (1 unless ok) (8 unless ltb (word w k) (word room k)) (a .1) in
+      (fit-of room w x (unless-zero 8 (readable room w x) (a .0)), ltb-true (word w k) (word room k) (unless-zero 7 _ (b .1)))
+
+  -- a record is edited
+  pub edit-open : (ok : Bool) (k i : ℕ) → editNumber room w x ok k i ≡ 0 → Fit room w x × (i < word w k)
+  unfolding editNumber
+  edit-open ok k i e =
+      let a = then-zero (9 unless readable room w x) (1 unless ok then 2 unless ltb i (word w k) then 0) e in
+      let b = then-zero (1 unless ok) (2 unless ltb i (word w k) then 0) (a .1) in
+      let c = then-zero (2 unless ltb i (word w k)) 0 (b .1) in
+      (fit-of room w x (unless-zero 8 (readable room w x) (a .0)), ltb-true i (word w k) (unless-zero 1 (ltb i (word w k)) (c .0)))

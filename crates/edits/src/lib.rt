@@ -1,0 +1,143 @@
+// Making an empty model, and the core of every insert and edit: fields and floats of one record, by its table
+// (model.rs, `Model::new`, `RawEditor`). `specs/Answers.antt` says what they answer and leave.
+pub mod put;
+pub mod write;
+
+use crate::put::put_new;
+use crate::put::put_reals;
+use crate::put::put_words;
+use crate::write::clear;
+use model::readable::lent;
+use model::readable::precision_ok;
+use model::readable::readable;
+ghost use mathlib.Core.Path.{_≡_};
+ghost use Prim.Native.Nat.{_<_};
+ghost use Rattle.edits.specs.Answers.{makeNumber, makeWords, makeReals, insertNumber, insertAnswer, insertWords, insertReals, editNumber, editWords, editReals};
+ghost use Rattle.edits.specs.Facts.{Fields};
+
+// The new record's id, or the refusal's number.
+pub enum Inserted {
+    At(u32),
+    Refused(u32),
+}
+
+// Why no model is made, else 0.
+fn make_refusal(room: &[usize; 10], words: &[u32], reals: &[f64], precision: f64) -> u32
+    ensures { λ r. ⌜ r ≡ makeNumber (now (room .entry)) (now (words .entry)) (now (reals .entry)) precision ⌝ }
+{
+    if !lent(room, words, reals) {
+        return 9;
+    }
+    if !precision_ok(precision) {
+        return 1;
+    }
+    0
+}
+
+// An empty model with its precision: 0, or the refusal's number.
+pub fn make(room: &[usize; 10], words: &mut [u32], reals: &mut [f64], precision: f64) -> u32
+    ensures answer { λ r. ⌜ r ≡ makeNumber (now (room .entry)) (now (words .entry)) (now (reals .entry)) precision ⌝ }
+    ensures tables { λ _. ⌜ now (words .exit) ≡ makeWords (now (room .entry)) (now (words .entry)) (now (reals .entry)) precision ⌝ }
+    ensures floats { λ _. ⌜ now (reals .exit) ≡ makeReals (now (room .entry)) (now (words .entry)) (now (reals .entry)) precision ⌝ }
+{
+    let n = make_refusal(room, &words[..], &reals[..], precision);
+    if n != 0 {
+        return n;
+    }
+    clear(&mut words[..10]);
+    reals[0] = precision;
+    0
+}
+
+// Why no record is inserted into table k, else 0.
+fn insert_refusal(room: &[usize; 10], words: &[u32], reals: &[f64], ok: bool, k: usize) -> u32
+    requires { ⌜ k < 10 ⌝ }
+    ensures { λ r. ⌜ r ≡ insertNumber (now (room .entry)) (now (words .entry)) (now (reals .entry)) ok k ⌝ }
+{
+    if !readable(room, words, reals) {
+        return 9;
+    }
+    if !ok {
+        return 1;
+    }
+    if room[k] <= words[k] as usize {
+        return 8;
+    }
+    0
+}
+
+// One record more in table k, with empty lists.
+pub fn insert(
+    room: &[usize; 10],
+    words: &mut [u32],
+    reals: &mut [f64],
+    ok: bool,
+    k: usize,
+    fields: &[u32],
+    floats: &[f64],
+) -> Inserted
+    requires { ⌜ Fields k 0 (now fields) (now floats) ⌝ }
+    ensures answer { λ r. ⌜ r ≡ insertAnswer (now (room .entry)) (now (words .entry)) (now (reals .entry)) ok k ⌝ }
+    ensures tables { λ _. ⌜ now (words .exit) ≡ insertWords (now (room .entry)) (now (words .entry)) (now (reals .entry)) ok k (now (fields .entry)) ⌝ }
+    ensures floats { λ _. ⌜ now (reals .exit) ≡ insertReals (now (room .entry)) (now (words .entry)) (now (reals .entry)) ok k (now (floats .entry)) ⌝ }
+{
+    let n = insert_refusal(room, &words[..], &reals[..], ok, k);
+    if n != 0 {
+        return Inserted::Refused(n);
+    }
+    let used = words[k];
+    put_new(room, words, k, used as usize, fields);
+    put_reals(room, reals, k, used as usize, floats);
+    words[k] = used + 1;
+    Inserted::At(used)
+}
+
+// Why record i of table k is not edited, else 0.
+fn edit_refusal(
+    room: &[usize; 10],
+    words: &[u32],
+    reals: &[f64],
+    ok: bool,
+    k: usize,
+    i: usize,
+) -> u32
+    requires { ⌜ k < 10 ⌝ }
+    ensures { λ r. ⌜ r ≡ editNumber (now (room .entry)) (now (words .entry)) (now (reals .entry)) ok k i ⌝ }
+{
+    if !readable(room, words, reals) {
+        return 9;
+    }
+    if !ok {
+        return 1;
+    }
+    if words[k] as usize <= i {
+        return 2;
+    }
+    0
+}
+
+// Other fields from place p on, and other floats, in record i of table k: 0, or the refusal's number.
+pub fn edit(
+    room: &[usize; 10],
+    words: &mut [u32],
+    reals: &mut [f64],
+    ok: bool,
+    k: usize,
+    i: usize,
+    p: usize,
+    fields: &[u32],
+    floats: &[f64],
+) -> u32
+    requires { ⌜ Fields k p (now fields) (now floats) ⌝ }
+    ensures answer { λ r. ⌜ r ≡ editNumber (now (room .entry)) (now (words .entry)) (now (reals .entry)) ok k i ⌝ }
+    ensures tables { λ _. ⌜ now (words .exit) ≡ editWords (now (room .entry)) (now (words .entry)) (now (reals .entry)) ok k i p (now (fields .entry)) ⌝ }
+    ensures floats { λ _. ⌜ now (reals .exit) ≡ editReals (now (room .entry)) (now (words .entry)) (now (reals .entry)) ok k i (now (floats .entry)) ⌝ }
+{
+    let n = edit_refusal(room, &words[..], &reals[..], ok, k, i);
+    if n != 0 {
+        return n;
+    }
+    put_words(room, words, k, i, p, fields);
+    put_reals(room, reals, k, i, floats);
+    0
+}

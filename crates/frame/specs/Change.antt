@@ -1,0 +1,54 @@
+-- What an insert and an edit change in the model, by the table's number. Definitions only.
+-- Two models are the same when each table has as many records, and the same under each id that is used: nobody reads the others.
+use Prim.Native.Nat.{ℕ, _<_}
+use mathlib.Core.Path.{_≡_}
+use mathlib.Core.Bool.{cond}
+use mathlib.Core.List.{List}
+use lib.Dec.{eqb}
+use lib.Ieee.{Float}
+use Rattle.store.specs.declared.Carrier.{Carrier}
+use Rattle.meaning.specs.Model.{Model, Table, Body, Region, Shell, Face, Loop, Fin, Edge, Vertex}
+use Rattle.meaning.specs.Edits.{inserted, edited}
+use Rattle.model.specs.Decode.{bodyOf, regionOf, shellOf, faceOf, loopOf, finOf, edgeOf, vertexOf, carrierOf}
+
+pub record SameTable {A : Type 0} (t u : Table A) : Type 0 where
+  pub used : t .used ≡ u .used
+  pub slots : (i : ℕ) → i < t .used → t .slot i ≡ u .slot i
+
+pub record SameModel (m n : Model) : Type 0 where
+  pub precision : m .precision ≡ n .precision
+  pub bodies : SameTable (m .bodies) (n .bodies)
+  pub regions : SameTable (m .regions) (n .regions)
+  pub shells : SameTable (m .shells) (n .shells)
+  pub faces : SameTable (m .faces) (n .faces)
+  pub loops : SameTable (m .loops) (n .loops)
+  pub fins : SameTable (m .fins) (n .fins)
+  pub edges : SameTable (m .edges) (n .edges)
+  pub vertices : SameTable (m .vertices) (n .vertices)
+  pub curves : SameTable (m .curves) (n .curves)
+  pub surfaces : SameTable (m .surfaces) (n .surfaces)
+
+-- a change of each table, by its number, where r and s are the words and floats of a record
+abbrev each : ((A : Type 0) → ℕ → Table A → A → Table A) → List ℕ → List Float → Model → Model
+each f r s m =
+    record {
+      precision = m .precision;
+      bodies = f Body 0 (m .bodies) (bodyOf r);
+      regions = f Region 1 (m .regions) (regionOf r);
+      shells = f Shell 2 (m .shells) (shellOf r);
+      faces = f Face 3 (m .faces) (faceOf r);
+      loops = f Loop 4 (m .loops) (loopOf r);
+      fins = f Fin 5 (m .fins) (finOf r);
+      edges = f Edge 6 (m .edges) (edgeOf r s);
+      vertices = f Vertex 7 (m .vertices) (vertexOf r s);
+      curves = f Carrier 8 (m .curves) (carrierOf r s);
+      surfaces = f Carrier 9 (m .surfaces) (carrierOf r s);
+    }
+
+-- record i of table k is the one of the words r and the floats s
+abbrev pub withRecord : ℕ → ℕ → List ℕ → List Float → Model → Model
+withRecord k i r s m = each (λ A q t a. cond (eqb q k) (edited t i (λ _. a)) t) r s m
+
+-- table k has one record more, that of the words r and the floats s
+abbrev pub withNew : ℕ → List ℕ → List Float → Model → Model
+withNew k r s m = each (λ A q t a. cond (eqb q k) (inserted t a) t) r s m

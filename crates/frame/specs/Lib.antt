@@ -1,0 +1,5 @@
+pub mod Put
+pub mod Over
+pub mod Frame
+pub mod Change
+pub mod Kept
