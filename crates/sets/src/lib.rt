@@ -1,0 +1,240 @@
+// Other fields in a record, its lists kept: 0, or 9; 1 for a tolerance that no record may have; 2 for a missing record.
+use edits::edit;
+use entity::records::BodyKind;
+use entity::records::Ref;
+use entity::records::Sense;
+use fields::body_fields;
+use fields::carrier_fields;
+use fields::carrier_floats;
+use fields::edge_fields;
+use fields::edge_floats;
+use fields::face_fields;
+use fields::fin_fields;
+use fields::region_fields;
+use fields::tolerance_ok;
+use fields::vertex_fields;
+use fields::vertex_floats;
+use geometry::tolerance::Tolerance;
+use store::Carrier;
+use vectors::vector::Point3;
+ghost use mathlib.Core.Path.{_≡_};
+ghost use mathlib.Core.Bool.{true};
+ghost use mathlib.Core.List.{[], _∷_};
+ghost use Rattle.meaning.specs.Edits.{toleranceOk};
+ghost use Rattle.edits.specs.Facts.{Fields};
+ghost use Rattle.edits.specs.Answers.{editNumber, editWords, editReals};
+ghost use Rattle.fields.specs.Fields.{mark, bodyFields, regionFields, shellFields, faceFields, loopFields, finFields, edgeFields, vertexFields, carrierFields, edgeFloats, vertexFloats, carrierFloats};
+
+// In a table without floats, from place p of the record on.
+fn set_fields(
+    room: &[usize; 10],
+    words: &mut [u32],
+    reals: &mut [f64],
+    k: usize,
+    id: usize,
+    p: usize,
+    fields: &[u32],
+) -> u32
+    requires { ⌜ Fields k p (now fields) [] ⌝ }
+    ensures answer { λ r. ⌜ r ≡ editNumber (now (room .entry)) (now (words .entry)) (now (reals .entry)) true k id ⌝ }
+    ensures tables { λ _. ⌜ now (words .exit) ≡ editWords (now (room .entry)) (now (words .entry)) (now (reals .entry)) true k id p (now (fields .entry)) ⌝ }
+    ensures floats { λ _. ⌜ now (reals .exit) ≡ editReals (now (room .entry)) (now (words .entry)) (now (reals .entry)) true k id [] ⌝ }
+{
+    let none: [f64; 0] = [];
+    edit(room, words, reals, true, k, id, p, fields, &none)
+}
+
+pub fn set_body(
+    room: &[usize; 10],
+    words: &mut [u32],
+    reals: &mut [f64],
+    id: usize,
+    kind: BodyKind,
+) -> u32
+    ensures answer { λ r. ⌜ r ≡ editNumber (now (room .entry)) (now (words .entry)) (now (reals .entry)) true 0 id ⌝ }
+    ensures tables { λ _. ⌜ now (words .exit) ≡ editWords (now (room .entry)) (now (words .entry)) (now (reals .entry)) true 0 id 0 (bodyFields kind) ⌝ }
+    ensures floats { λ _. ⌜ now (reals .exit) ≡ editReals (now (room .entry)) (now (words .entry)) (now (reals .entry)) true 0 id [] ⌝ }
+{
+    let fields = body_fields(kind);
+    set_fields(room, words, reals, 0, id, 0, &fields)
+}
+
+pub fn set_region(
+    room: &[usize; 10],
+    words: &mut [u32],
+    reals: &mut [f64],
+    id: usize,
+    body: u32,
+    solid: bool,
+) -> u32
+    ensures answer { λ r. ⌜ r ≡ editNumber (now (room .entry)) (now (words .entry)) (now (reals .entry)) true 1 id ⌝ }
+    ensures tables { λ _. ⌜ now (words .exit) ≡ editWords (now (room .entry)) (now (words .entry)) (now (reals .entry)) true 1 id 0 (regionFields body solid) ⌝ }
+    ensures floats { λ _. ⌜ now (reals .exit) ≡ editReals (now (room .entry)) (now (words .entry)) (now (reals .entry)) true 1 id [] ⌝ }
+{
+    let fields = region_fields(body, solid);
+    set_fields(room, words, reals, 1, id, 0, &fields)
+}
+
+pub fn set_shell(
+    room: &[usize; 10],
+    words: &mut [u32],
+    reals: &mut [f64],
+    id: usize,
+    region: u32,
+) -> u32
+    ensures answer { λ r. ⌜ r ≡ editNumber (now (room .entry)) (now (words .entry)) (now (reals .entry)) true 2 id ⌝ }
+    ensures tables { λ _. ⌜ now (words .exit) ≡ editWords (now (room .entry)) (now (words .entry)) (now (reals .entry)) true 2 id 0 (shellFields region) ⌝ }
+    ensures floats { λ _. ⌜ now (reals .exit) ≡ editReals (now (room .entry)) (now (words .entry)) (now (reals .entry)) true 2 id [] ⌝ }
+{
+    let fields = [region];
+    set_fields(room, words, reals, 2, id, 0, &fields)
+}
+
+pub fn set_face(
+    room: &[usize; 10],
+    words: &mut [u32],
+    reals: &mut [f64],
+    id: usize,
+    front: Ref,
+    back: Ref,
+    surface: Ref,
+    sense: Sense,
+) -> u32
+    ensures answer { λ r. ⌜ r ≡ editNumber (now (room .entry)) (now (words .entry)) (now (reals .entry)) true 3 id ⌝ }
+    ensures tables { λ _. ⌜ now (words .exit) ≡ editWords (now (room .entry)) (now (words .entry)) (now (reals .entry)) true 3 id 0 (faceFields front back surface sense) ⌝ }
+    ensures floats { λ _. ⌜ now (reals .exit) ≡ editReals (now (room .entry)) (now (words .entry)) (now (reals .entry)) true 3 id [] ⌝ }
+{
+    let fields = face_fields(front, back, surface, sense);
+    set_fields(room, words, reals, 3, id, 0, &fields)
+}
+
+pub fn set_loop(
+    room: &[usize; 10],
+    words: &mut [u32],
+    reals: &mut [f64],
+    id: usize,
+    face: u32,
+) -> u32
+    ensures answer { λ r. ⌜ r ≡ editNumber (now (room .entry)) (now (words .entry)) (now (reals .entry)) true 4 id ⌝ }
+    ensures tables { λ _. ⌜ now (words .exit) ≡ editWords (now (room .entry)) (now (words .entry)) (now (reals .entry)) true 4 id 0 (loopFields face) ⌝ }
+    ensures floats { λ _. ⌜ now (reals .exit) ≡ editReals (now (room .entry)) (now (words .entry)) (now (reals .entry)) true 4 id [] ⌝ }
+{
+    let fields = [face];
+    set_fields(room, words, reals, 4, id, 0, &fields)
+}
+
+pub fn set_fin(
+    room: &[usize; 10],
+    words: &mut [u32],
+    reals: &mut [f64],
+    id: usize,
+    owner: u32,
+    edge: u32,
+    sense: Sense,
+    pcurve: bool,
+) -> u32
+    ensures answer { λ r. ⌜ r ≡ editNumber (now (room .entry)) (now (words .entry)) (now (reals .entry)) true 5 id ⌝ }
+    ensures tables { λ _. ⌜ now (words .exit) ≡ editWords (now (room .entry)) (now (words .entry)) (now (reals .entry)) true 5 id 0 (finFields owner edge sense pcurve) ⌝ }
+    ensures floats { λ _. ⌜ now (reals .exit) ≡ editReals (now (room .entry)) (now (words .entry)) (now (reals .entry)) true 5 id [] ⌝ }
+{
+    let fields = fin_fields(owner, edge, sense, pcurve);
+    set_fields(room, words, reals, 5, id, 0, &fields)
+}
+
+pub fn set_edge(
+    room: &[usize; 10],
+    words: &mut [u32],
+    reals: &mut [f64],
+    id: usize,
+    start: Ref,
+    end: Ref,
+    curve: Ref,
+    tolerance: Tolerance,
+) -> u32
+    ensures answer { λ r. ⌜ r ≡ editNumber (now (room .entry)) (now (words .entry)) (now (reals .entry)) (toleranceOk tolerance) 6 id ⌝ }
+    ensures tables { λ _. ⌜ now (words .exit) ≡ editWords (now (room .entry)) (now (words .entry)) (now (reals .entry)) (toleranceOk tolerance) 6 id 0 (edgeFields start end curve tolerance) ⌝ }
+    ensures floats { λ _. ⌜ now (reals .exit) ≡ editReals (now (room .entry)) (now (words .entry)) (now (reals .entry)) (toleranceOk tolerance) 6 id (edgeFloats tolerance) ⌝ }
+{
+    let fields = edge_fields(start, end, curve, tolerance);
+    let floats = edge_floats(tolerance);
+    edit(
+        room,
+        words,
+        reals,
+        tolerance_ok(tolerance),
+        6,
+        id,
+        0,
+        &fields,
+        &floats,
+    )
+}
+
+pub fn set_vertex(
+    room: &[usize; 10],
+    words: &mut [u32],
+    reals: &mut [f64],
+    id: usize,
+    point: Point3,
+    tolerance: Tolerance,
+) -> u32
+    ensures answer { λ r. ⌜ r ≡ editNumber (now (room .entry)) (now (words .entry)) (now (reals .entry)) (toleranceOk tolerance) 7 id ⌝ }
+    ensures tables { λ _. ⌜ now (words .exit) ≡ editWords (now (room .entry)) (now (words .entry)) (now (reals .entry)) (toleranceOk tolerance) 7 id 0 (vertexFields tolerance) ⌝ }
+    ensures floats { λ _. ⌜ now (reals .exit) ≡ editReals (now (room .entry)) (now (words .entry)) (now (reals .entry)) (toleranceOk tolerance) 7 id (vertexFloats point tolerance) ⌝ }
+{
+    let fields = vertex_fields(tolerance);
+    let floats = vertex_floats(point, tolerance);
+    edit(
+        room,
+        words,
+        reals,
+        tolerance_ok(tolerance),
+        7,
+        id,
+        0,
+        &fields,
+        &floats,
+    )
+}
+
+pub fn set_curve(
+    room: &[usize; 10],
+    words: &mut [u32],
+    reals: &mut [f64],
+    id: usize,
+    carrier: Carrier,
+) -> u32
+    ensures answer { λ r. ⌜ r ≡ editNumber (now (room .entry)) (now (words .entry)) (now (reals .entry)) true 8 id ⌝ }
+    ensures tables { λ _. ⌜ now (words .exit) ≡ editWords (now (room .entry)) (now (words .entry)) (now (reals .entry)) true 8 id 0 (carrierFields carrier) ⌝ }
+    ensures floats { λ _. ⌜ now (reals .exit) ≡ editReals (now (room .entry)) (now (words .entry)) (now (reals .entry)) true 8 id (carrierFloats carrier) ⌝ }
+{
+    let fields = carrier_fields(carrier);
+    let floats = carrier_floats(carrier);
+    edit(room, words, reals, true, 8, id, 0, &fields, &floats)
+}
+
+pub fn set_surface(
+    room: &[usize; 10],
+    words: &mut [u32],
+    reals: &mut [f64],
+    id: usize,
+    carrier: Carrier,
+) -> u32
+    ensures answer { λ r. ⌜ r ≡ editNumber (now (room .entry)) (now (words .entry)) (now (reals .entry)) true 9 id ⌝ }
+    ensures tables { λ _. ⌜ now (words .exit) ≡ editWords (now (room .entry)) (now (words .entry)) (now (reals .entry)) true 9 id 0 (carrierFields carrier) ⌝ }
+    ensures floats { λ _. ⌜ now (reals .exit) ≡ editReals (now (room .entry)) (now (words .entry)) (now (reals .entry)) true 9 id (carrierFloats carrier) ⌝ }
+{
+    let fields = carrier_fields(carrier);
+    let floats = carrier_floats(carrier);
+    edit(room, words, reals, true, 9, id, 0, &fields, &floats)
+}
+
+// The mark of a fin that has a pcurve; its other fields are kept.
+pub fn set_fin_geometry(room: &[usize; 10], words: &mut [u32], reals: &mut [f64], id: usize) -> u32
+    ensures answer { λ r. ⌜ r ≡ editNumber (now (room .entry)) (now (words .entry)) (now (reals .entry)) true 5 id ⌝ }
+    ensures tables { λ _. ⌜ now (words .exit) ≡ editWords (now (room .entry)) (now (words .entry)) (now (reals .entry)) true 5 id 3 (mark true ∷ []) ⌝ }
+    ensures floats { λ _. ⌜ now (reals .exit) ≡ editReals (now (room .entry)) (now (words .entry)) (now (reals .entry)) true 5 id [] ⌝ }
+{
+    let fields = [1];
+    set_fields(room, words, reals, 5, id, 3, &fields)
+}
