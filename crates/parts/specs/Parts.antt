@@ -1,0 +1,58 @@
+-- Sources and their parts, on the lent words. No reader of a public promise needs this file. Definitions only.
+use Prim.Native.Nat.{ℕ, _+_, _*_, _/_, _%_, _≤_, _<_}
+use mathlib.Core.Path.{_≡_}
+use mathlib.Core.Bool.{Bool, true, cond, _&&_}
+use mathlib.Core.List.{List, [], _∷_, _++_, map}
+use lib.Dec.{eqb, ltb}
+use lib.ListN.{length}
+use Rattle.meaning.specs.Lists.{all, listed}
+use Rattle.model.specs.Layout.{word, wordsOf}
+use Rattle.model.specs.Decode.{maybeAt}
+use Rattle.model.specs.Entries.{listTables, listOf}
+use Rattle.marks.specs.Marks.{puts}
+
+-- the table that a list's entries are of
+abbrev pub entryTables : List ℕ
+entryTables = 1 ∷ 2 ∷ 3 ∷ 6 ∷ 7 ∷ 4 ∷ 5 ∷ 5 ∷ []
+
+-- the edge that a fin names
+abbrev pub finEdge : List ℕ → List ℕ → ℕ → ℕ
+finEdge room w i = word (wordsOf room w 5 i) 1
+
+-- an end by its tag, and the ends in an edge's words
+abbrev pub endOf : ℕ → ℕ → List ℕ
+endOf tag x = cond (eqb tag 0) [] (x ∷ [])
+
+abbrev pub endsIn : List ℕ → List ℕ
+endsIn s = endOf (word s 0) (word s 1) ++ endOf (word s 2) (word s 3)
+
+-- the ids of list j of record i: the edges for a loop's fins, the ends for an edge's
+unfoldable pub partIn : List ℕ → List ℕ → ℕ → ℕ → List ℕ
+partIn room w j i =
+    cond (eqb j 7) (endsIn (wordsOf room w 6 i))
+    (cond (eqb j 6) (map (finEdge room w) (listOf room w 6 i)) (listOf room w j i))
+
+unfoldable pub partOf : List ℕ → List ℕ → ℕ → List ℕ
+partOf room w source = partIn room w (source % 8) (source / 8)
+
+-- ids as sources of list k
+unfoldable pub sourced : ℕ → List ℕ → List ℕ
+sourced k l = map (λ i. 8 * i + k) l
+
+-- record i of list j's table exists, and so does all that it lists
+unfoldable pub followed : List ℕ → List ℕ → ℕ → ℕ → Bool
+followed room w j i = ltb i (word w (word listTables j)) && all (λ x. ltb x (word w (word entryTables j))) (listOf room w j i)
+
+-- the source's record exists, and so do a loop's fins
+pub record Source (room w : List ℕ) (source : ℕ) : Type 0 where
+  pub slot : source / 8 < word w (word listTables (source % 8))
+  pub fins : source % 8 ≡ 6 → all (λ x. ltb x (word w 5)) (listOf room w 6 (source / 8)) ≡ true
+
+pub record Sources (room w path : List ℕ) : Type 0 where
+  pub at : (p : ℕ) → p < length path → Source room w (word path p)
+
+-- a part was put into the front of a buffer
+pub record Took (part buf₀ buf : List ℕ) (n : ℕ) : Type 0 where
+  pub count : n ≡ length part
+  pub short : n ≤ 1024
+  pub list : buf ≡ puts buf₀ 0 part

@@ -1,0 +1,148 @@
+// Where a walk's ids stand: a source is a record and which of its lists, in one word, 8 times the id and the list's number, and its
+// part the ids that it lists. The faces of a shell, its wire edges and acorn vertices are lists; a loop's list of fins stands for
+// the edges that they name, and an edge's for its ends.
+use marks::all_below;
+use marks::put;
+use marks::put_all;
+use model::entries::list;
+use model::layout::words_of;
+ghost use mathlib.Core.Path.{_≡_};
+ghost use mathlib.Core.Bool.{true};
+ghost use mathlib.Core.List.{map};
+ghost use Prim.Native.Nat.{_+_, _*_, _<_, _≤_};
+ghost use lib.Dec.{ltb};
+ghost use lib.ListN.{length};
+ghost use Rattle.meaning.specs.Lists.{all, joined, listed};
+ghost use Rattle.model.specs.Layout.{word};
+ghost use Rattle.model.specs.Entries.{listOf};
+ghost use Rattle.model.specs.Fit.{Lists};
+ghost use Rattle.marks.specs.Marks.{puts};
+ghost use Rattle.parts.specs.Parts.{finEdge, endOf, endsIn, partOf, sourced, followed, Source, Took};
+
+// The table whose records have the list, and the table that its entries are of.
+const TABLES: [usize; 8] = [0, 1, 2, 2, 2, 3, 4, 6];
+
+const ENTRIES: [usize; 8] = [1, 2, 3, 6, 7, 4, 5, 5];
+
+// The edges that the fins name, in order.
+fn fin_edges(room: &[usize; 10], words: &[u32], fins: &[u32], buf: &mut [u32])
+    requires { ⌜ Lists (now room) (now words) ⌝ }
+    requires { ⌜ all (λ x. ltb x (word (now words) 5)) (now fins) ≡ true ⌝ }
+    ensures { λ _. ⌜ now (buf .exit) ≡ puts (now (buf .entry)) 0 (map (finEdge (now (room .entry)) (now (words .entry))) (now (fins .entry))) ⌝ }
+{
+    let mut k = 0;
+    while k < fins.len() {
+        let fin = words_of(room, words, 5, fins[k] as usize);
+        put(buf, k, fin[1]);
+        k += 1;
+    }
+}
+
+// Puts an end at place n, unless it is none, and returns the next place.
+fn put_end(buf: &mut [u32], n: usize, tag: u32, x: u32) -> usize
+    requires { ⌜ n ≤ 1 ⌝ }
+    ensures { λ r. ⌜ (r ≡ n + length (endOf tag x)) × (now (buf .exit) ≡ puts (now (buf .entry)) n (endOf tag x)) ⌝ }
+{
+    if tag == 0 {
+        return n;
+    }
+    put(buf, n, x);
+    n + 1
+}
+
+// The ends of an edge, start then end, off its own words.
+fn ends(edge: &[u32], buf: &mut [u32]) -> usize
+    requires { ⌜ length (now edge) ≡ 16 ⌝ }
+    ensures { λ r. ⌜ Took (endsIn (now (edge .entry))) (now (buf .entry)) (now (buf .exit)) r ⌝ }
+{
+    let n = put_end(buf, 0, edge[0], edge[1]);
+    put_end(buf, n, edge[2], edge[3])
+}
+
+// Puts a source's part into the front of the buffer and returns how many ids it has.
+pub fn part(room: &[usize; 10], words: &[u32], source: u32, buf: &mut [u32]) -> usize
+    requires { ⌜ Lists (now room) (now words) ⌝ }
+    requires { ⌜ Source (now room) (now words) source ⌝ }
+    ensures { λ r. ⌜ Took (partOf (now (room .entry)) (now (words .entry)) source) (now (buf .entry)) (now (buf .exit)) r ⌝ }
+{
+    let j = (source % 8) as usize;
+    let i = (source / 8) as usize;
+    if j == 7 {
+        return ends(words_of(room, words, 6, i), buf);
+    }
+    let ids = list(room, words, j, i);
+    if j == 6 {
+        fin_edges(room, words, ids, buf);
+        return ids.len();
+    }
+    put_all(buf, 0, ids);
+    ids.len()
+}
+
+// Puts the ids into the path from place m on, as sources of list k.
+pub fn add_sources(path: &mut [u32], m: usize, k: u32, ids: &[u32])
+    requires { ⌜ (m + length (now ids) ≤ 4294967296) × (k < 8) ⌝ }
+    requires { ⌜ all (λ x. ltb x 4096) (now ids) ≡ true ⌝ }
+    ensures { λ _. ⌜ now (path .exit) ≡ puts (now (path .entry)) m (sourced k (now (ids .entry))) ⌝ }
+{
+    let mut i = 0;
+    while i < ids.len() {
+        put(path, m + i, 8 * ids[i] + k);
+        i += 1;
+    }
+}
+
+// Do record i of list j's table and all that it lists exist?
+fn record_followed(room: &[usize; 10], words: &[u32], j: usize, i: usize) -> bool
+    requires { ⌜ Lists (now room) (now words) ⌝ }
+    requires { ⌜ j < 8 ⌝ }
+    ensures { λ r. ⌜ r ≡ followed (now (room .entry)) (now (words .entry)) j i ⌝ }
+{
+    if words[TABLES[j]] as usize <= i {
+        return false;
+    }
+    all_below(list(room, words, j, i), words[ENTRIES[j]])
+}
+
+// Do the records that the ids name, and all that their list j has, exist?
+pub fn all_followed(room: &[usize; 10], words: &[u32], j: usize, ids: &[u32]) -> bool
+    requires { ⌜ Lists (now room) (now words) ⌝ }
+    requires { ⌜ j < 8 ⌝ }
+    ensures { λ r. ⌜ r ≡ all (followed (now (room .entry)) (now (words .entry)) j) (now (ids .entry)) ⌝ }
+{
+    let mut ok = true;
+    let mut k = 0;
+    while k < ids.len() {
+        ok = ok & record_followed(room, words, j, ids[k] as usize);
+        k += 1;
+    }
+    ok
+}
+
+// Puts what list j of the records has, one after the other, into the path from place m on, as sources of list k, and returns the next
+// place.
+pub fn gather(
+    room: &[usize; 10],
+    words: &[u32],
+    j: usize,
+    ids: &[u32],
+    k: u32,
+    path: &mut [u32],
+    m: usize,
+) -> usize
+    requires { ⌜ Lists (now room) (now words) ⌝ }
+    requires { ⌜ (j < 8) × (k < 8) × (m + 1024 * length (now ids) ≤ 4294967296) ⌝ }
+    requires { ⌜ all (followed (now room) (now words) j) (now ids) ≡ true ⌝ }
+    ensures { λ r. ⌜ r ≡ m + length (joined (listOf (now (room .entry)) (now (words .entry)) j) (now (ids .entry))) ⌝ }
+    ensures { λ _. ⌜ now (path .exit) ≡ puts (now (path .entry)) m (sourced k (joined (listOf (now (room .entry)) (now (words .entry)) j) (now (ids .entry)))) ⌝ }
+{
+    let mut n = m;
+    let mut i = 0;
+    while i < ids.len() {
+        let more = list(room, words, j, ids[i] as usize);
+        add_sources(path, n, k, more);
+        n = n + more.len();
+        i += 1;
+    }
+    n
+}

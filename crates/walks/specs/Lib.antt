@@ -1,0 +1,4 @@
+pub mod Calls
+pub mod Reach
+pub mod Decoded
+pub mod Laws

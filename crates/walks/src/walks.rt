@@ -1,0 +1,197 @@
+// The walks. Each has two forms: `write_..` fills the front of the caller's list and returns how many ids it put there, and its promise
+// tells of the whole list; the form without `write` returns that front part.
+use crate::refusals::edges_refusal;
+use crate::refusals::faces_refusal;
+use crate::refusals::vertices_refusal;
+use marks::clear;
+use paths::edge_path;
+use paths::face_path;
+use paths::vertex_path;
+use visits::visit;
+ghost use mathlib.Core.Path.{_≡_};
+ghost use mathlib.Core.Bool.{_&&_};
+ghost use Prim.Native.Nat.{_≤_};
+ghost use lib.ListN.{length, replicate};
+ghost use Rattle.meaning.specs.Lists.{firsts};
+ghost use Rattle.model.specs.Fit.{Lists};
+ghost use Rattle.parts.specs.Parts.{Sources};
+ghost use Rattle.visits.specs.Visits.{idsOf};
+ghost use Rattle.walks.specs.Calls.{inFront, facesNumber, facesHanded, edgesNumber, edgesHanded, verticesNumber, verticesHanded};
+ghost use Rattle.walks.specs.Decoded.{Wrote};
+
+// Walks a path: counts first, on no list at all, and fills the caller's list if it is long enough. The marks come all zero and are left so.
+fn write_walk(
+    room: &[usize; 10],
+    words: &[u32],
+    path: &[u32],
+    marks: &mut [u8],
+    out: &mut [u32],
+    code: &mut u32,
+) -> usize
+    requires { ⌜ Lists (now room) (now words) ⌝ }
+    requires { ⌜ Sources (now room) (now words) (now path) ⌝ }
+    requires { ⌜ length (now path) ≤ 8448 ⌝ }
+    requires { ⌜ now marks ≡ replicate (length (now marks)) 0 ⌝ }
+    ensures { λ r. ⌜ Wrote (firsts (idsOf (now (room .entry)) (now (words .entry)) (now (path .entry)))) (now (out .entry)) (now (out .exit)) (now (code .exit)) r ⌝ }
+    ensures { λ _. ⌜ now (marks .exit) ≡ replicate (length (now (marks .entry))) 0 ⌝ }
+{
+    let space = out.len();
+    let n = visit(room, words, path, marks, &mut out[..0]);
+    clear(marks);
+    if space < n {
+        *code = 8;
+        return 0;
+    }
+    let m = visit(room, words, path, marks, out);
+    clear(marks);
+    *code = 0;
+    m
+}
+
+// The faces of a body: regions, shells, faces in list order, each at its first meeting. `faces` are seen marks, and `code` gets the
+// refusal's number, or 0.
+pub fn write_faces(
+    room: &[usize; 10],
+    words: &[u32],
+    reals: &[f64],
+    body: usize,
+    faces: &mut [u8],
+    out: &mut [u32],
+    code: &mut u32,
+) -> usize
+    ensures count { λ r. ⌜ r ≡ length (facesHanded (now (room .entry)) (now (words .entry)) (now (reals .entry)) body (now (faces .entry)) (now (out .entry))) ⌝ }
+    ensures list { λ _. ⌜ now (out .exit) ≡ inFront (facesHanded (now (room .entry)) (now (words .entry)) (now (reals .entry)) body (now (faces .entry)) (now (out .entry))) (now (out .entry)) ⌝ }
+    ensures code { λ _. ⌜ now (code .exit) ≡ facesNumber (now (room .entry)) (now (words .entry)) (now (reals .entry)) body (now (faces .entry)) (now (out .entry)) ⌝ }
+    ensures faces { λ _. ⌜ now (faces .exit) ≡ replicate (length (now (faces .entry))) 0 ⌝ }
+{
+    let enough = room[3] <= faces.len();
+    clear(faces);
+    let refused = faces_refusal(room, words, reals, enough, body);
+    *code = refused;
+    if refused != 0 {
+        return 0;
+    }
+    let mut path = [0u32; 256];
+    let n = face_path(room, words, body, &mut path);
+    write_walk(room, words, &path[..n], faces, out, code)
+}
+
+pub fn body_faces<'a>(
+    room: &[usize; 10],
+    words: &[u32],
+    reals: &[f64],
+    body: usize,
+    faces: &mut [u8],
+    out: &'a mut [u32],
+    code: &mut u32,
+) -> &'a mut [u32]
+    ensures answer { λ r. ⌜ now r ≡ facesHanded (now (room .entry)) (now (words .entry)) (now (reals .entry)) body (now (faces .entry)) (now (out .entry)) ⌝ }
+    ensures code { λ _. ⌜ now (code .exit) ≡ facesNumber (now (room .entry)) (now (words .entry)) (now (reals .entry)) body (now (faces .entry)) (now (out .entry)) ⌝ }
+    ensures faces { λ _. ⌜ now (faces .exit) ≡ replicate (length (now (faces .entry))) 0 ⌝ }
+{
+    let n = write_faces(room, words, reals, body, faces, out, code);
+    &mut out[..n]
+}
+
+// The edges of a body: over its faces their loops' fins, then the wire edges of its shells. `faces` and `edges` are seen marks.
+pub fn write_edges(
+    room: &[usize; 10],
+    words: &[u32],
+    reals: &[f64],
+    body: usize,
+    faces: &mut [u8],
+    edges: &mut [u8],
+    out: &mut [u32],
+    code: &mut u32,
+) -> usize
+    ensures count { λ r. ⌜ r ≡ length (edgesHanded (now (room .entry)) (now (words .entry)) (now (reals .entry)) body (now (faces .entry)) (now (edges .entry)) (now (out .entry))) ⌝ }
+    ensures list { λ _. ⌜ now (out .exit) ≡ inFront (edgesHanded (now (room .entry)) (now (words .entry)) (now (reals .entry)) body (now (faces .entry)) (now (edges .entry)) (now (out .entry))) (now (out .entry)) ⌝ }
+    ensures code { λ _. ⌜ now (code .exit) ≡ edgesNumber (now (room .entry)) (now (words .entry)) (now (reals .entry)) body (now (faces .entry)) (now (edges .entry)) (now (out .entry)) ⌝ }
+    ensures faces { λ _. ⌜ now (faces .exit) ≡ replicate (length (now (faces .entry))) 0 ⌝ }
+    ensures edges { λ _. ⌜ now (edges .exit) ≡ replicate (length (now (edges .entry))) 0 ⌝ }
+{
+    let enough = (room[3] <= faces.len()) & (room[6] <= edges.len());
+    clear(faces);
+    clear(edges);
+    let refused = edges_refusal(room, words, reals, enough, body, faces);
+    *code = refused;
+    if refused != 0 {
+        return 0;
+    }
+    let mut path = [0u32; 8448];
+    let n = edge_path(room, words, body, faces, &mut path);
+    write_walk(room, words, &path[..n], edges, out, code)
+}
+
+pub fn body_edges<'a>(
+    room: &[usize; 10],
+    words: &[u32],
+    reals: &[f64],
+    body: usize,
+    faces: &mut [u8],
+    edges: &mut [u8],
+    out: &'a mut [u32],
+    code: &mut u32,
+) -> &'a mut [u32]
+    ensures answer { λ r. ⌜ now r ≡ edgesHanded (now (room .entry)) (now (words .entry)) (now (reals .entry)) body (now (faces .entry)) (now (edges .entry)) (now (out .entry)) ⌝ }
+    ensures code { λ _. ⌜ now (code .exit) ≡ edgesNumber (now (room .entry)) (now (words .entry)) (now (reals .entry)) body (now (faces .entry)) (now (edges .entry)) (now (out .entry)) ⌝ }
+    ensures faces { λ _. ⌜ now (faces .exit) ≡ replicate (length (now (faces .entry))) 0 ⌝ }
+    ensures edges { λ _. ⌜ now (edges .exit) ≡ replicate (length (now (edges .entry))) 0 ⌝ }
+{
+    let n = write_edges(room, words, reals, body, faces, edges, out, code);
+    &mut out[..n]
+}
+
+// The vertices of a body: over its edges start then end, then the acorn vertices of its shells.
+pub fn write_vertices(
+    room: &[usize; 10],
+    words: &[u32],
+    reals: &[f64],
+    body: usize,
+    faces: &mut [u8],
+    edges: &mut [u8],
+    vertices: &mut [u8],
+    out: &mut [u32],
+    code: &mut u32,
+) -> usize
+    ensures count { λ r. ⌜ r ≡ length (verticesHanded (now (room .entry)) (now (words .entry)) (now (reals .entry)) body (now (faces .entry)) (now (edges .entry)) (now (vertices .entry)) (now (out .entry))) ⌝ }
+    ensures list { λ _. ⌜ now (out .exit) ≡ inFront (verticesHanded (now (room .entry)) (now (words .entry)) (now (reals .entry)) body (now (faces .entry)) (now (edges .entry)) (now (vertices .entry)) (now (out .entry))) (now (out .entry)) ⌝ }
+    ensures code { λ _. ⌜ now (code .exit) ≡ verticesNumber (now (room .entry)) (now (words .entry)) (now (reals .entry)) body (now (faces .entry)) (now (edges .entry)) (now (vertices .entry)) (now (out .entry)) ⌝ }
+    ensures faces { λ _. ⌜ now (faces .exit) ≡ replicate (length (now (faces .entry))) 0 ⌝ }
+    ensures edges { λ _. ⌜ now (edges .exit) ≡ replicate (length (now (edges .entry))) 0 ⌝ }
+    ensures vertices { λ _. ⌜ now (vertices .exit) ≡ replicate (length (now (vertices .entry))) 0 ⌝ }
+{
+    let enough = (room[3] <= faces.len()) & (room[6] <= edges.len()) & (room[7] <= vertices.len());
+    clear(faces);
+    clear(edges);
+    clear(vertices);
+    let refused = vertices_refusal(room, words, reals, enough, body, faces);
+    *code = refused;
+    if refused != 0 {
+        return 0;
+    }
+    let mut path = [0u32; 2304];
+    let n = vertex_path(room, words, body, faces, edges, &mut path);
+    write_walk(room, words, &path[..n], vertices, out, code)
+}
+
+pub fn body_vertices<'a>(
+    room: &[usize; 10],
+    words: &[u32],
+    reals: &[f64],
+    body: usize,
+    faces: &mut [u8],
+    edges: &mut [u8],
+    vertices: &mut [u8],
+    out: &'a mut [u32],
+    code: &mut u32,
+) -> &'a mut [u32]
+    ensures answer { λ r. ⌜ now r ≡ verticesHanded (now (room .entry)) (now (words .entry)) (now (reals .entry)) body (now (faces .entry)) (now (edges .entry)) (now (vertices .entry)) (now (out .entry)) ⌝ }
+    ensures code { λ _. ⌜ now (code .exit) ≡ verticesNumber (now (room .entry)) (now (words .entry)) (now (reals .entry)) body (now (faces .entry)) (now (edges .entry)) (now (vertices .entry)) (now (out .entry)) ⌝ }
+    ensures faces { λ _. ⌜ now (faces .exit) ≡ replicate (length (now (faces .entry))) 0 ⌝ }
+    ensures edges { λ _. ⌜ now (edges .exit) ≡ replicate (length (now (edges .entry))) 0 ⌝ }
+    ensures vertices { λ _. ⌜ now (vertices .exit) ≡ replicate (length (now (vertices .entry))) 0 ⌝ }
+{
+    let n = write_vertices(room, words, reals, body, faces, edges, vertices, out, code);
+    &mut out[..n]
+}
