@@ -1,0 +1,24 @@
+-- The tests of an edge before its points can be read. Definitions only.
+use Prim.Native.Nat.{ℕ}
+use mathlib.Core.Bool.{_&&_}
+use mathlib.Core.List.{List, [], _∷_}
+use Rattle.geometry.specs.Refuse.{_unless_, _then_}
+use Rattle.store.specs.Queries.{lineRefusal}
+use Rattle.meaning.specs.Model.{Model, has, curve}
+use Rattle.meaning.specs.Refuse.{firstRefusal}
+use Rattle.meaning.specs.Split.{test2, test4, test5, test6}
+use Rattle.model.specs.Layout.{word}
+use Rattle.model.specs.Decode.{flagAt}
+
+-- tests 2 and 4 to 6
+unfoldable pub endsRefusal : Model → ℕ → ℕ
+endsRefusal m e = firstRefusal (test2 m e ∷ test4 m e ∷ test5 m e ∷ test6 m e ∷ [])
+
+-- tests 4 to 6, of the edge's words
+unfoldable pub carrierRefusal : Model → List ℕ → ℕ
+carrierRefusal m s =
+    7 unless flagAt s 0 && flagAt s 2
+    then 1 unless flagAt s 4
+    then lineRefusal (curve m (word s 5))
+    then 2 unless has (m .vertices) (word s 1)
+    then 2 unless has (m .vertices) (word s 3)

@@ -1,0 +1,4 @@
+pub mod Segment
+pub mod Ends
+pub mod Answers
+pub mod Laws

@@ -1,0 +1,59 @@
+// Carriers by id.
+use entity::slots::found;
+use geometry::curve::Line;
+use store::Found;
+use store::LineFound;
+use store::line_of;
+use vectors::vector::Point3;
+use vectors::vector::Vec3;
+ghost use mathlib.Core.Path.{_≡_};
+ghost use Rattle.store.specs.Queries.{lineRefusal, theLine};
+ghost use Rattle.meaning.specs.Model.{curve, surface};
+ghost use Rattle.model.specs.Decode.{decode};
+ghost use Rattle.model.specs.Fit.{Sized};
+
+// What the table of curves has under an id, and that of surfaces.
+pub fn curve_found(room: &[usize; 10], words: &[u32], reals: &[f64], id: usize) -> Found
+    requires { ⌜ Sized (now room) (now words) (now reals) ⌝ }
+    ensures { λ r. ⌜ r ≡ curve (decode (now (room .entry)) (now (words .entry)) (now (reals .entry))) id ⌝ }
+{
+    found(room, words, reals, 8, id)
+}
+
+pub fn surface_found(room: &[usize; 10], words: &[u32], reals: &[f64], id: usize) -> Found
+    requires { ⌜ Sized (now room) (now words) (now reals) ⌝ }
+    ensures { λ r. ⌜ r ≡ surface (decode (now (room .entry)) (now (words .entry)) (now (reals .entry))) id ⌝ }
+{
+    found(room, words, reals, 9, id)
+}
+
+// 2 where there is no curve, 7 where it is no line, else 0.
+pub fn line_refusal(curve: Found) -> u32
+    ensures { λ r. ⌜ r ≡ lineRefusal curve ⌝ }
+{
+    match line_of(curve) {
+        LineFound::Refused(n) => n,
+        LineFound::Is(_) => 0,
+    }
+}
+
+// The line; zeros where there is none, which nobody reads.
+pub fn the_line(curve: Found) -> Line
+    ensures { λ r. ⌜ r ≡ theLine curve ⌝ }
+{
+    match line_of(curve) {
+        LineFound::Refused(_) => Line {
+            origin: Point3 {
+                x: 0.0,
+                y: 0.0,
+                z: 0.0,
+            },
+            direction: Vec3 {
+                x: 0.0,
+                y: 0.0,
+                z: 0.0,
+            },
+        },
+        LineFound::Is(line) => line,
+    }
+}

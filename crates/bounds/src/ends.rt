@@ -1,0 +1,65 @@
+// What the tests of an edge read off the lent memory: `carrier` of euler.rs, and the two points. An edge's words are start
+// tag, id, end tag, id, curve tag, id.
+use crate::carriers::curve_found;
+use crate::carriers::line_refusal;
+use crate::carriers::the_line;
+use crate::refusals::then;
+use crate::refusals::unless;
+use crate::segment::Segment;
+use entity::slots::vertex_at;
+use model::layout::words_of;
+use vectors::vector::Point3;
+ghost use mathlib.Core.Path.{_≡_};
+ghost use Prim.Native.Nat.{_<_};
+ghost use lib.ListN.{length};
+ghost use Rattle.meaning.specs.Model.{pointOf};
+ghost use Rattle.model.specs.Layout.{word};
+ghost use Rattle.model.specs.Decode.{decode};
+ghost use Rattle.model.specs.Fit.{Sized, Fit};
+ghost use Rattle.bounds.specs.Segment.{segmentAt};
+ghost use Rattle.bounds.specs.Ends.{carrierRefusal, endsRefusal};
+
+// Tests 4 to 6, of the edge's words.
+fn carrier_refusal(room: &[usize; 10], words: &[u32], reals: &[f64], w: &[u32]) -> u32
+    requires { ⌜ Sized (now room) (now words) (now reals) ⌝ }
+    requires { ⌜ length (now w) ≡ 16 ⌝ }
+    ensures { λ r. ⌜ r ≡ carrierRefusal (decode (now (room .entry)) (now (words .entry)) (now (reals .entry))) (now (w .entry)) ⌝ }
+{
+    let line = line_refusal(curve_found(room, words, reals, w[5] as usize));
+    let points = then(unless(2, w[1] < words[7]), unless(2, w[3] < words[7]));
+    let ends = unless(7, (w[0] != 0) & (w[2] != 0));
+    then(ends, then(unless(1, w[4] != 0), then(line, points)))
+}
+
+// Tests 2 and 4 to 6.
+pub fn ends_refusal(room: &[usize; 10], words: &[u32], reals: &[f64], edge: usize) -> u32
+    requires { ⌜ Fit (now room) (now words) (now reals) ⌝ }
+    ensures { λ r. ⌜ r ≡ endsRefusal (decode (now (room .entry)) (now (words .entry)) (now (reals .entry))) edge ⌝ }
+{
+    if words[6] as usize <= edge {
+        return 2;
+    }
+    carrier_refusal(room, words, reals, words_of(room, words, 6, edge))
+}
+
+fn point_at(room: &[usize; 10], words: &[u32], reals: &[f64], i: usize) -> Point3
+    requires { ⌜ Sized (now room) (now words) (now reals) ⌝ }
+    requires { ⌜ i < word (now words) 7 ⌝ }
+    ensures { λ r. ⌜ r ≡ pointOf (decode (now (room .entry)) (now (words .entry)) (now (reals .entry))) i ⌝ }
+{
+    vertex_at(room, words, reals, i).point
+}
+
+// The edge's line and points, behind those tests.
+pub fn segment_at(room: &[usize; 10], words: &[u32], reals: &[f64], edge: usize) -> Segment
+    requires { ⌜ Fit (now room) (now words) (now reals) ⌝ }
+    requires { ⌜ endsRefusal (decode (now room) (now words) (now reals)) edge ≡ 0 ⌝ }
+    ensures { λ r. ⌜ r ≡ segmentAt (decode (now (room .entry)) (now (words .entry)) (now (reals .entry))) edge ⌝ }
+{
+    let w = words_of(room, words, 6, edge);
+    Segment {
+        line: the_line(curve_found(room, words, reals, w[5] as usize)),
+        start: point_at(room, words, reals, w[1] as usize),
+        end: point_at(room, words, reals, w[3] as usize),
+    }
+}

@@ -1,0 +1,69 @@
+// Whether the faces of an edge hold it: test 11 from the face on.
+use bounds::carriers::surface_found;
+use bounds::refusals::then;
+use bounds::refusals::unless;
+use geometry::surface::Plane;
+use model::layout::words_of;
+use numbers::Sign;
+use signs::off_plane;
+use store::Found;
+use store::PlaneFound;
+use store::plane_of;
+use vectors::vector::Point3;
+ghost use mathlib.Core.Path.{_≡_};
+ghost use Prim.Native.Nat.{_<_};
+ghost use Rattle.meaning.specs.Split.{within};
+ghost use Rattle.model.specs.Layout.{word};
+ghost use Rattle.model.specs.Fit.{Sized};
+ghost use Rattle.uses.specs.Uses.{onPlanes, planeTest, faceTest};
+
+// The points at lo, hi and the split parameter, and the edge's tolerance.
+pub struct Cut {
+    pub lo: Point3,
+    pub hi: Point3,
+    pub at: Point3,
+    pub tolerance: f64,
+}
+
+// Further off than the tolerance 1, unresolved 7.
+fn within(sign: Sign) -> u32
+    ensures { λ r. ⌜ r ≡ within sign ⌝ }
+{
+    match sign {
+        Sign::Negative => 0,
+        Sign::Zero => 0,
+        Sign::Positive => 1,
+        Sign::Unresolved => 7,
+    }
+}
+
+fn on_planes(plane: Plane, cut: Cut) -> u32
+    ensures { λ r. ⌜ r ≡ onPlanes plane cut ⌝ }
+{
+    let lo = within(off_plane(plane, cut.lo, cut.tolerance));
+    let hi = within(off_plane(plane, cut.hi, cut.tolerance));
+    let at = within(off_plane(plane, cut.at, cut.tolerance));
+    then(lo, then(hi, at))
+}
+
+fn plane_refusal(surface: Found, cut: Cut) -> u32
+    ensures { λ r. ⌜ r ≡ planeTest surface cut ⌝ }
+{
+    match plane_of(surface) {
+        PlaneFound::Refused(n) => n,
+        PlaneFound::Is(plane) => on_planes(plane, cut),
+    }
+}
+
+// A face's words 4 and 5 are its surface's tag and id.
+pub fn face_refusal(room: &[usize; 10], words: &[u32], reals: &[f64], face: usize, cut: Cut) -> u32
+    requires { ⌜ Sized (now room) (now words) (now reals) ⌝ }
+    ensures { λ r. ⌜ r ≡ faceTest (now (room .entry)) (now (words .entry)) (now (reals .entry)) cut face ⌝ }
+{
+    if words[3] as usize <= face {
+        return 2;
+    }
+    let w = words_of(room, words, 3, face);
+    let plane = plane_refusal(surface_found(room, words, reals, w[5] as usize), cut);
+    then(unless(1, w[4] != 0), plane)
+}
