@@ -1,0 +1,3 @@
+pub mod Beside
+pub mod Facts
+pub mod Laws

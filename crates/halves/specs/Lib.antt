@@ -1,0 +1,3 @@
+pub mod Pass
+pub mod Facts
+pub mod Laws
