@@ -1,0 +1,17 @@
+-- `bbox::Extent::with` meets its contract: one point more. Assumes nothing.
+use Rattle.figures.specs.Laws.{extent-more}
+use borrow.Author.Needs.{needs}
+use Rattle.figures.proofs.bbox.Extent.with.Statement.{statement}
+use Rattle.figures.proofs.bbox.Extent.with.Tie as tie
+
+is-finite-requires : tie.Need-is-finite-requires
+is-finite-requires c κs = search needs
+
+grown-requires : tie.Need-grown-requires
+grown-requires c κs = search needs
+
+returns : tie.Need-returns
+returns c = λ l e. extent-more _ _ l _ _ (cc) (c .grown .ensures) e
+
+pub with-spec : {M : Type 1} → statement M
+with-spec = tie.close (tie.spec is-finite-requires grown-requires returns)
