@@ -1,0 +1,145 @@
+// Points held against curves and surfaces, what is found of it logged (`geometry_error`, `point_on_surface` and parts of `fin_geometry`
+// of gensolid-check's lib.rs). Tables 6 and 7 stand for the classes edge and vertex.
+use numbers::Sign;
+use reasons::Tally;
+use reasons::note;
+use reasons::note_if;
+use reasons::skip;
+use signs::off_curve;
+use store::Evaluated;
+use store::Found;
+use store::Measured;
+use store::Projected;
+use store::distance_to_surface;
+use store::eval_curve;
+use store::project_to_curve;
+use vectors::vector::Point3;
+ghost use mathlib.Core.Path.{_≡_};
+ghost use mathlib.Core.List.{[]};
+ghost use Prim.Native.Nat.{_≤_, _<_};
+ghost use Rattle.meaning.specs.Faults.{about, geometryError, offCurve, sampleAt};
+ghost use Rattle.reasons.specs.Log.{classAt, Noted, Enough};
+ghost use Rattle.points.specs.Points.{curveFindings, surfaceFindings, sampleFindings, samplesFindings};
+
+// A query's refusal: 7 is a check not made, 2 is reason 25, any other is reason 26.
+fn geometry_error(nums: &mut [u32], t: Tally, n: u32, asked: u32, id: u32) -> Tally
+    requires { ⌜ (0 < n) × (asked < 8) ⌝ }
+    requires { ⌜ Enough t (geometryError (about (classAt asked) id) n []) ⌝ }
+    ensures { λ r. ⌜ Noted (geometryError (about (classAt asked) id) n []) (now (nums .entry)) t (now (nums .exit)) r ⌝ }
+{
+    if n == 7 {
+        return skip(t);
+    }
+    if n == 2 {
+        return note(nums, t, 25, asked, id);
+    }
+    note(nums, t, 26, asked, id)
+}
+
+fn note_off_curve(nums: &mut [u32], t: Tally, sign: Sign, v: u32) -> Tally
+    requires { ⌜ Enough t (offCurve sign v) ⌝ }
+    ensures { λ r. ⌜ Noted (offCurve sign v) (now (nums .entry)) t (now (nums .exit)) r ⌝ }
+{
+    match sign {
+        Sign::Negative => t,
+        Sign::Zero => t,
+        Sign::Positive => note(nums, t, 22, 0, v),
+        Sign::Unresolved => skip(t),
+    }
+}
+
+// The vertex v at p against the curve of the edge e, with the tolerances of both.
+pub fn curve_test(
+    nums: &mut [u32],
+    t: Tally,
+    curve: Found,
+    p: Point3,
+    vertex: f64,
+    edge: f64,
+    e: u32,
+    v: u32,
+) -> Tally
+    requires { ⌜ Enough t (curveFindings curve p vertex edge e v) ⌝ }
+    ensures { λ r. ⌜ Noted (curveFindings curve p vertex edge e v) (now (nums .entry)) t (now (nums .exit)) r ⌝ }
+{
+    match project_to_curve(curve, p) {
+        Projected::Refused(n) => geometry_error(nums, t, n, 6, e),
+        Projected::At(near) => {
+            note_off_curve(nums, t, off_curve(p, near.point, vertex, edge), v)
+        }
+    }
+}
+
+// Reason n where p is off the surface.
+pub fn point_on_surface(
+    nums: &mut [u32],
+    t: Tally,
+    surface: Found,
+    p: Point3,
+    tolerance: f64,
+    n: u32,
+    asked: u32,
+    id: u32,
+) -> Tally
+    requires { ⌜ (0 < n) × (n ≤ 26) × (asked < 8) ⌝ }
+    requires { ⌜ Enough t (surfaceFindings surface p tolerance n (about (classAt asked) id)) ⌝ }
+    ensures { λ r. ⌜ Noted (surfaceFindings surface p tolerance n (about (classAt asked) id)) (now (nums .entry)) t (now (nums .exit)) r ⌝ }
+{
+    match distance_to_surface(surface, p) {
+        Measured::Refused(m) => geometry_error(nums, t, m, asked, id),
+        Measured::Is(distance) => note_if(nums, t, tolerance < distance, n, asked, id),
+    }
+}
+
+// The point of the edge e at a parameter against the face's surface.
+fn sample_test(
+    nums: &mut [u32],
+    t: Tally,
+    curve: Found,
+    surface: Found,
+    tolerance: f64,
+    at: f64,
+    e: u32,
+) -> Tally
+    requires { ⌜ Enough t (sampleFindings curve surface tolerance e at) ⌝ }
+    ensures { λ r. ⌜ Noted (sampleFindings curve surface tolerance e at) (now (nums .entry)) t (now (nums .exit)) r ⌝ }
+{
+    match eval_curve(curve, at) {
+        Evaluated::Refused(n) => geometry_error(nums, t, n, 6, e),
+        Evaluated::At(p) => point_on_surface(nums, t, surface, p, tolerance, 24, 6, e),
+    }
+}
+
+// The parameter of sample k of n.
+fn sample_at(t0: f64, t1: f64, n: u32, k: u32) -> f64
+    requires { ⌜ n ≤ 255 ⌝ }
+    ensures { λ r. ⌜ r ≡ sampleAt t0 t1 n k ⌝ }
+{
+    t0 + (t1 - t0) * (k as f64) / ((n + 1) as f64)
+}
+
+// n samples of the edge e between two parameters.
+pub fn sample_tests(
+    nums: &mut [u32],
+    t: Tally,
+    curve: Found,
+    surface: Found,
+    tolerance: f64,
+    t0: f64,
+    t1: f64,
+    n: u32,
+    e: u32,
+) -> Tally
+    requires { ⌜ n ≤ 255 ⌝ }
+    requires { ⌜ Enough t (samplesFindings curve surface tolerance e t0 t1 n) ⌝ }
+    ensures { λ r. ⌜ Noted (samplesFindings curve surface tolerance e t0 t1 n) (now (nums .entry)) t (now (nums .exit)) r ⌝ }
+{
+    let mut tally = t;
+    let mut k = 0;
+    while k < n {
+        let at = sample_at(t0, t1, n, k + 1);
+        tally = sample_test(nums, tally, curve, surface, tolerance, at, e);
+        k += 1;
+    }
+    tally
+}

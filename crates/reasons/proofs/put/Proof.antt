@@ -1,0 +1,24 @@
+-- `reasons::put` meets its contract. Assumes nothing.
+use mathlib.Core.Path.{sym}
+use lib.Seq.{set-out}
+use borrow.Author.Needs.{needs}
+use Rattle.reasons.proofs.put.Statement.{statement}
+use Rattle.reasons.proofs.put.Tie as tie
+
+mul-nums : tie.Need-mul-nums
+mul-nums c = search needs
+
+slice-write-nums : tie.Need-slice-write-nums
+slice-write-nums c = search needs
+
+same-length : tie.Need-same-length
+same-length c = search needs
+
+returns : tie.Need-returns
+returns c = search needs
+
+returns-2 : tie.Need-returns-2
+returns-2 c = sym (set-out _ _ _ (c .if1 .left))
+
+pub put-spec : {M : Type 1} → statement M
+put-spec = tie.close (tie.spec mul-nums slice-write-nums same-length returns returns-2)
