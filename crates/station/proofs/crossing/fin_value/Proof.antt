@@ -1,0 +1,14 @@
+use Rattle.station.specs.Crossing.{finValue}
+use borrow.Author.Needs.{needs}
+use Rattle.station.proofs.crossing.fin_value.Statement.{statement}
+use Rattle.station.proofs.crossing.fin_value.Tie as tie
+
+fin-fields-requires : tie.Need-fin-fields-requires
+fin-fields-requires c κs = search needs
+
+returns : tie.Need-returns
+unfolding finValue
+returns c = c .fin-fields .ensures
+
+pub fin-value-spec : {M : Type 1} → statement M
+fin-value-spec = tie.close (tie.spec fin-fields-requires returns)

@@ -1,0 +1,23 @@
+use mathlib.Core.Path.{refl}
+use borrow.Author.Needs.{needs}
+use Rattle.station.proofs.entries.brunskerl_list_entry.Statement.{statement}
+use Rattle.station.proofs.entries.brunskerl_list_entry.Tie as tie
+
+list-entry-requires : tie.Need-list-entry-requires
+list-entry-requires c κs = search needs
+
+enum-known-id : tie.Need-enum-known-id
+enum-known-id c = search needs
+
+enum-known-n : tie.Need-enum-known-n
+enum-known-n c = search needs
+
+returns : tie.Need-returns
+returns c = rw (← c .before .before .before .before .list-entry .ensures, c .before .before .id .given .1) (refl, refl)
+
+returns-2 : tie.Need-returns-2
+returns-2 c = rw (← c .before .before .before .list-entry .ensures, c .before .n .given .1) (refl, refl)
+
+pub brunskerl-list-entry-spec : {M : Type 1} → statement M
+brunskerl-list-entry-spec =
+    tie.close (tie.spec list-entry-requires enum-known-id enum-known-n returns returns-2)

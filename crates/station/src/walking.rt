@@ -1,0 +1,70 @@
+// The three walks: how many ids were put into the front of the lent list, and the number in a lent slot.
+use walks::walks::write_edges;
+use walks::walks::write_faces;
+use walks::walks::write_vertices;
+ghost use mathlib.Core.Path.{_≡_};
+ghost use lib.ListN.{length, replicate};
+ghost use Rattle.walks.specs.Calls.{inFront, facesNumber, facesHanded, edgesNumber, edgesHanded, verticesNumber, verticesHanded};
+
+// The faces of a body; `faces` are seen marks.
+#[no_mangle]
+pub extern "C" fn brunskerl_body_faces(
+    room: &[usize; 10],
+    words: &[u32],
+    reals: &[f64],
+    body: usize,
+    faces: &mut [u8],
+    out: &mut [u32],
+    code: &mut u32,
+) -> usize
+    ensures count { λ r. ⌜ r ≡ length (facesHanded (now (room .entry)) (now (words .entry)) (now (reals .entry)) body (now (faces .entry)) (now (out .entry))) ⌝ }
+    ensures list { λ _. ⌜ now (out .exit) ≡ inFront (facesHanded (now (room .entry)) (now (words .entry)) (now (reals .entry)) body (now (faces .entry)) (now (out .entry))) (now (out .entry)) ⌝ }
+    ensures code { λ _. ⌜ now (code .exit) ≡ facesNumber (now (room .entry)) (now (words .entry)) (now (reals .entry)) body (now (faces .entry)) (now (out .entry)) ⌝ }
+    ensures faces { λ _. ⌜ now (faces .exit) ≡ replicate (length (now (faces .entry))) 0 ⌝ }
+{
+    write_faces(room, words, reals, body, faces, out, code)
+}
+
+// The edges of a body; `faces` and `edges` are seen marks.
+#[no_mangle]
+pub extern "C" fn brunskerl_body_edges(
+    room: &[usize; 10],
+    words: &[u32],
+    reals: &[f64],
+    body: usize,
+    faces: &mut [u8],
+    edges: &mut [u8],
+    out: &mut [u32],
+    code: &mut u32,
+) -> usize
+    ensures count { λ r. ⌜ r ≡ length (edgesHanded (now (room .entry)) (now (words .entry)) (now (reals .entry)) body (now (faces .entry)) (now (edges .entry)) (now (out .entry))) ⌝ }
+    ensures list { λ _. ⌜ now (out .exit) ≡ inFront (edgesHanded (now (room .entry)) (now (words .entry)) (now (reals .entry)) body (now (faces .entry)) (now (edges .entry)) (now (out .entry))) (now (out .entry)) ⌝ }
+    ensures code { λ _. ⌜ now (code .exit) ≡ edgesNumber (now (room .entry)) (now (words .entry)) (now (reals .entry)) body (now (faces .entry)) (now (edges .entry)) (now (out .entry)) ⌝ }
+    ensures faces { λ _. ⌜ now (faces .exit) ≡ replicate (length (now (faces .entry))) 0 ⌝ }
+    ensures edges { λ _. ⌜ now (edges .exit) ≡ replicate (length (now (edges .entry))) 0 ⌝ }
+{
+    write_edges(room, words, reals, body, faces, edges, out, code)
+}
+
+// The vertices of a body; `faces`, `edges` and `vertices` are seen marks.
+#[no_mangle]
+pub extern "C" fn brunskerl_body_vertices(
+    room: &[usize; 10],
+    words: &[u32],
+    reals: &[f64],
+    body: usize,
+    faces: &mut [u8],
+    edges: &mut [u8],
+    vertices: &mut [u8],
+    out: &mut [u32],
+    code: &mut u32,
+) -> usize
+    ensures count { λ r. ⌜ r ≡ length (verticesHanded (now (room .entry)) (now (words .entry)) (now (reals .entry)) body (now (faces .entry)) (now (edges .entry)) (now (vertices .entry)) (now (out .entry))) ⌝ }
+    ensures list { λ _. ⌜ now (out .exit) ≡ inFront (verticesHanded (now (room .entry)) (now (words .entry)) (now (reals .entry)) body (now (faces .entry)) (now (edges .entry)) (now (vertices .entry)) (now (out .entry))) (now (out .entry)) ⌝ }
+    ensures code { λ _. ⌜ now (code .exit) ≡ verticesNumber (now (room .entry)) (now (words .entry)) (now (reals .entry)) body (now (faces .entry)) (now (edges .entry)) (now (vertices .entry)) (now (out .entry)) ⌝ }
+    ensures faces { λ _. ⌜ now (faces .exit) ≡ replicate (length (now (faces .entry))) 0 ⌝ }
+    ensures edges { λ _. ⌜ now (edges .exit) ≡ replicate (length (now (edges .entry))) 0 ⌝ }
+    ensures vertices { λ _. ⌜ now (vertices .exit) ≡ replicate (length (now (vertices .entry))) 0 ⌝ }
+{
+    write_vertices(room, words, reals, body, faces, edges, vertices, out, code)
+}
