@@ -1,5 +1,6 @@
 //! Damages, each of one record.
 
+use crate::original::STRAYS;
 use crate::plain::{Carrier, Kind, Plain};
 use crate::random::Random;
 
@@ -103,18 +104,7 @@ fn harm_carrier(random: &mut Random, carrier: &mut Carrier, precision: f64) -> S
 
 /// One damage: what it did, and an edge that it is near to.
 pub fn damage(plain: &mut Plain, random: &mut Random) -> (String, Option<usize>) {
-    let used = [
-        plain.bodies.len(),
-        plain.regions.len(),
-        plain.shells.len(),
-        plain.faces.len(),
-        plain.loops.len(),
-        plain.fins.len(),
-        plain.edges.len(),
-        plain.vertices.len(),
-        plain.curves.len(),
-        plain.surfaces.len(),
-    ];
+    let used = plain.used();
     let [
         bodies,
         regions,
@@ -356,4 +346,14 @@ pub fn damage(plain: &mut Plain, random: &mut Random) -> (String, Option<usize>)
         };
         return (what, near);
     }
+}
+
+/// Of the ids that name no record, puts some above every table.
+pub fn stray(plain: &mut Plain, random: &mut Random) {
+    let used = plain.used();
+    plain.ids(|class, id| {
+        if *id >= used[class] && random.one_in(2) {
+            *id = random.pick(&STRAYS);
+        }
+    });
 }

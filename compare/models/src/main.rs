@@ -6,21 +6,16 @@
 //! of the seed and its number. Of its damages all are done, or those that KEPT numbers (`0,2`; `-`
 //! for none). What was met is counted, and the counts are printed.
 
-mod damage;
-mod original;
-mod plain;
-mod random;
-mod shapes;
-
 use std::collections::BTreeMap;
 use std::fs;
 use std::slice;
 
 use gensolid_topo::Model;
 
-use original::{Names, Told};
-use plain::{Plain, bits, list};
-use random::Random;
+use models::original::{self, Names, Told};
+use models::plain::{self, Plain, bits, list};
+use models::random::Random;
+use models::{Made, Sort, fraction, made};
 
 const HEAD: &str = "-- Models and the Rust's answers, written by compare/models.
 use mathlib.Core.Path.{_≡_, refl}
@@ -239,49 +234,6 @@ impl Writer {
     }
 }
 
-/// Near the ends, around the precision, and no fraction at all.
-fn fraction(random: &mut Random, precision: f64, bounds: &[u64]) -> f64 {
-    let length = match bounds {
-        [0, lo, hi] => f64::from_bits(*hi) - f64::from_bits(*lo),
-        _ => 1.0,
-    };
-    let part = precision / length;
-    let times = random.pick(&[0.9, 0.999, 1.0, 1.0 + 4.0 * f64::EPSILON, 1.001, 2.0]);
-    match random.below(4) {
-        0 => part * times,
-        1 => 1.0 - part * times,
-        2 => random.pick(&[1.0e-4, 1.0 - 1.0e-12, f64::MIN_POSITIVE, 1.0f64.next_down()]),
-        _ => random.pick(&[0.0, -0.0, 1.0, -0.25, 1.5, f64::NAN, f64::INFINITY]),
-    }
-}
-
-/// The model of a number, damaged, with what was done to it; none where the Rust makes no such line,
-/// plane or tolerance.
-fn made(
-    names: &Names,
-    seed: u64,
-    number: u64,
-    kept: Option<&[usize]>,
-) -> Option<(Model, Plain, Vec<String>, Vec<usize>)> {
-    let mut random = Random::new(seed, number, 0);
-    let (mut plain, shape) = Plain::sound(&mut random);
-    let damages = random.pick(&[0, 1, 1, 2, 2, 3, 4]);
-    let mut told = vec![shape];
-    let mut near = Vec::new();
-    for k in 0..damages {
-        if kept.is_some_and(|kept| !kept.contains(&k)) {
-            continue;
-        }
-        let mut random = Random::new(seed, number, k as u64 + 1);
-        let (what, edge) = damage::damage(&mut plain, &mut random);
-        told.push(format!("damage {k}, {what}"));
-        near.extend(edge);
-    }
-    let model = original::build(&mut plain, names).ok()?;
-    assert_eq!(original::read(&model, names).numbers(), plain.numbers());
-    Some((model, plain, told, near))
-}
-
 fn main() {
     let arguments: Vec<String> = std::env::args().skip(1).collect();
     let number = |k: usize| -> u64 {
@@ -302,7 +254,12 @@ fn main() {
     let mut done = 0;
     let mut next = first;
     while done < count {
-        let Some((model, plain, told, near)) = made(&writer.names, seed, next, kept.as_deref())
+        let Some(Made {
+            model,
+            plain,
+            told,
+            near,
+        }) = made(&writer.names, Sort::Small, seed, next, kept.as_deref())
         else {
             next += 1;
             assert!(

@@ -1,16 +1,16 @@
 //! The Rust's side: a plain model built into its `Model`, read back from it, and asked.
 
+use std::ops::Index;
+
 use gensolid_check::{CheckOptions, Fault, FaultKind, Report, check_body};
 use gensolid_core::{Arena, Error, Id, Precision, Result, Tolerance, effective_tolerance};
-use gensolid_geom::{
-    BCurve, Circle, Curve, CurveId, Line, ParamRange, Plane, Sphere, Surface, SurfaceId,
-};
+use gensolid_geom::{BCurve, Circle, Curve, Line, ParamRange, Plane, Sphere, Surface};
 use gensolid_math::{Frame, Interval, Point3, Sign, Vec3};
 use gensolid_topo::intervals::{dot, vector};
 use gensolid_topo::{
-    Body, BodyId, BodyKind, Edge, EdgeId, EntityRef, Face, FaceId, Fin, FinGeometry, FinId, Loop,
-    LoopId, Model, Region, RegionId, Sense, Shell, ShellId, Vertex, VertexId, body_bounding_box,
-    body_volume, edge_parameter_bounds, split_line_edge,
+    Body, BodyId, BodyKind, Edge, EntityRef, Face, Fin, FinGeometry, Loop, Model, Region, Sense,
+    Shell, Vertex, VertexId, body_bounding_box, body_volume, edge_parameter_bounds,
+    split_line_edge,
 };
 
 use crate::plain::{self, Carrier, Kind, Plain, Triple, bits, optional};
@@ -18,26 +18,56 @@ use crate::plain::{self, Carrier, Kind, Plain, Triple, bits, optional};
 /// More ids of each class than a model has records. They come from arenas of their own, so that a
 /// model can be given ids of records that it lacks.
 pub struct Names {
-    bodies: Vec<BodyId>,
-    regions: Vec<RegionId>,
-    shells: Vec<ShellId>,
-    faces: Vec<FaceId>,
-    loops: Vec<LoopId>,
-    fins: Vec<FinId>,
-    edges: Vec<EdgeId>,
-    vertices: Vec<VertexId>,
-    curves: Vec<CurveId>,
-    surfaces: Vec<SurfaceId>,
+    pub bodies: Ids<Body>,
+    pub regions: Ids<Region>,
+    pub shells: Ids<Shell>,
+    pub faces: Ids<Face>,
+    pub loops: Ids<Loop>,
+    pub fins: Ids<Fin>,
+    pub edges: Ids<Edge>,
+    pub vertices: Ids<Vertex>,
+    pub curves: Ids<Curve>,
+    pub surfaces: Ids<Surface>,
 }
 
-fn ids<T: Clone>(record: T) -> Vec<Id<T>> {
+/// The slots of an arena that ids are of by their number. No model has as many records.
+const SLOTS: usize = 4200;
+
+/// Numbers above every table. The Rust makes no ids of slots so high without as many records; ids of
+/// the slots from `SLOTS` on stand for them.
+pub const STRAYS: [usize; 7] = [
+    SLOTS,
+    65_535,
+    1 << 24,
+    (1 << 29) - 1,
+    1 << 29,
+    1 << 31,
+    u32::MAX as usize,
+];
+
+/// The ids of a class, by number.
+pub struct Ids<T>(Vec<Id<T>>);
+
+impl<T> Index<usize> for Ids<T> {
+    type Output = Id<T>;
+
+    fn index(&self, id: usize) -> &Id<T> {
+        if id < SLOTS {
+            return &self.0[id];
+        }
+        let stray = STRAYS.iter().position(|&stray| stray == id);
+        &self.0[SLOTS + stray.expect("a number that an id stands for")]
+    }
+}
+
+fn ids<T: Clone>(record: T) -> Ids<T> {
     let mut arena = Arena::new();
-    (0..256)
-        .map(|_| arena.insert(record.clone()).expect("an arena has room"))
-        .collect()
+    let ids =
+        (0..SLOTS + STRAYS.len()).map(|_| arena.insert(record.clone()).expect("an arena has room"));
+    Ids(ids.collect())
 }
 
-fn pick<T>(names: &[Id<T>], list: &[usize]) -> Vec<Id<T>> {
+pub fn pick<T>(names: &Ids<T>, list: &[usize]) -> Vec<Id<T>> {
     list.iter().map(|&id| names[id]).collect()
 }
 
@@ -45,11 +75,16 @@ fn slots<T>(list: &[Id<T>]) -> Vec<usize> {
     list.iter().copied().map(slot).collect()
 }
 
-fn slot<T>(id: Id<T>) -> usize {
-    id.index() as usize
+pub fn slot<T>(id: Id<T>) -> usize {
+    let index = id.index() as usize;
+    if index < SLOTS {
+        index
+    } else {
+        STRAYS[index - SLOTS]
+    }
 }
 
-fn point([x, y, z]: Triple) -> Point3 {
+pub fn point([x, y, z]: Triple) -> Point3 {
     Point3::new(x, y, z)
 }
 
@@ -57,7 +92,7 @@ fn direction([x, y, z]: Triple) -> Vec3 {
     Vec3::new(x, y, z)
 }
 
-fn sense(positive: bool) -> Sense {
+pub fn sense(positive: bool) -> Sense {
     if positive {
         Sense::Positive
     } else {
@@ -65,7 +100,7 @@ fn sense(positive: bool) -> Sense {
     }
 }
 
-const KINDS: [(Kind, BodyKind); 5] = [
+pub const KINDS: [(Kind, BodyKind); 5] = [
     (Kind::Acorn, BodyKind::Acorn),
     (Kind::Wire, BodyKind::Wire),
     (Kind::Sheet, BodyKind::Sheet),
@@ -238,8 +273,8 @@ pub fn build(plain: &mut Plain, names: &Names) -> Result<Model> {
     Ok(model)
 }
 
-fn all<T, R>(names: &[Id<T>], read: impl Fn(Id<T>) -> Option<R>) -> Vec<R> {
-    names.iter().map_while(|&id| read(id)).collect()
+fn all<T, R>(names: &Ids<T>, read: impl Fn(Id<T>) -> Option<R>) -> Vec<R> {
+    names.0.iter().map_while(|&id| read(id)).collect()
 }
 
 /// All tables of the Rust's model.
@@ -363,7 +398,7 @@ fn told<T>(answer: Result<T>, numbers: impl FnOnce(T) -> Vec<u64>) -> Told {
 }
 
 fn listed<T>(list: Vec<Id<T>>) -> Vec<u64> {
-    list.into_iter().map(|id| u64::from(id.index())).collect()
+    list.into_iter().map(|id| slot(id) as u64).collect()
 }
 
 pub fn walks(model: &Model, names: &Names, body: usize) -> [Told; 3] {

@@ -105,6 +105,62 @@ pub fn bits(x: f64) -> u64 {
     }
 }
 
+impl Plain {
+    /// How many records each table has, in 01's order.
+    pub fn used(&self) -> [usize; 10] {
+        [
+            self.bodies.len(),
+            self.regions.len(),
+            self.shells.len(),
+            self.faces.len(),
+            self.loops.len(),
+            self.fins.len(),
+            self.edges.len(),
+            self.vertices.len(),
+            self.curves.len(),
+            self.surfaces.len(),
+        ]
+    }
+
+    /// Every id that is stored, with the number of its table.
+    pub fn ids(&mut self, mut visit: impl FnMut(usize, &mut usize)) {
+        let mut each = |class: usize, ids: &mut dyn Iterator<Item = &mut usize>| {
+            ids.for_each(|id| visit(class, id));
+        };
+        for r in &mut self.bodies {
+            each(1, &mut r.regions.iter_mut());
+        }
+        for r in &mut self.regions {
+            each(0, &mut [&mut r.body].into_iter());
+            each(2, &mut r.shells.iter_mut());
+        }
+        for r in &mut self.shells {
+            each(1, &mut [&mut r.region].into_iter());
+            each(3, &mut r.faces.iter_mut());
+            each(6, &mut r.wire_edges.iter_mut());
+            each(7, &mut r.acorn_vertices.iter_mut());
+        }
+        for r in &mut self.faces {
+            each(2, &mut r.front.iter_mut().chain(&mut r.back));
+            each(4, &mut r.loops.iter_mut());
+            each(9, &mut r.surface.iter_mut());
+        }
+        for r in &mut self.loops {
+            each(3, &mut [&mut r.face].into_iter());
+            each(5, &mut r.fins.iter_mut());
+        }
+        for r in &mut self.fins {
+            each(4, &mut [&mut r.owner].into_iter());
+            each(6, &mut [&mut r.edge].into_iter());
+        }
+        for r in &mut self.edges {
+            each(5, &mut r.fins.iter_mut());
+            each(7, &mut r.start.iter_mut().chain(&mut r.end));
+            each(8, &mut r.curve.iter_mut());
+        }
+    }
+}
+
 // ---- as a term
 
 pub fn list<T: Display>(entries: impl IntoIterator<Item = T>) -> String {

@@ -439,4 +439,56 @@ impl Plain {
         }
         (plain, shape)
     }
+
+    /// So many prisms, each of so many sides, side by side: for the benchmark.
+    pub fn prisms(bodies: usize, sides: usize) -> Self {
+        let mut plain = Self {
+            precision: 0.001,
+            ..Self::default()
+        };
+        let style = Style {
+            either: false,
+            shifted: false,
+        };
+        for k in 0..bodies {
+            let mut place = Place::ORIGIN;
+            place.offset[0] = 100.0 * k as f64;
+            let mut random = Random::new(1, k as u64, 0);
+            plain.solid(&mut random, &prism(sides, 40.0, 10.0), &place, style);
+        }
+        plain
+    }
+
+    /// A sound model of up to five bodies, some of them with many sides or as thin as the precision,
+    /// and what it is.
+    pub fn several(random: &mut Random) -> (Self, String) {
+        let mut plain = Self {
+            precision: random.pick(&[0.001, 0.001, 0.0009765625, 0.0009765625, 1.0e-8, 0.125]),
+            ..Self::default()
+        };
+        let mut shapes = Vec::new();
+        for _ in 0..random.pick(&[1, 1, 1, 1, 2, 2, 3, 5]) {
+            let place = Place::new(random);
+            let style = Style {
+                either: random.one_in(2),
+                shifted: random.one_in(3),
+            };
+            shapes.push(match random.below(24) {
+                0 => {
+                    let n = 6 + random.below(30);
+                    let [a, b] = [0; 2].map(|_| Self::size(random));
+                    plain.solid(random, &prism(n, a, b), &place, style);
+                    "prism of many sides"
+                }
+                1 => {
+                    let [a, b] = [0; 2].map(|_| Self::size(random));
+                    let thin = plain.precision * random.pick(&[0.9, 1.0, 1.5, 1.999, 2.0, 2.5]);
+                    plain.solid(random, &box_of([a, thin, b]), &place, style);
+                    "thin box"
+                }
+                _ => plain.add(random),
+            });
+        }
+        (plain, shapes.join(", "))
+    }
 }

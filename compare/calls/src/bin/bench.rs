@@ -1,0 +1,103 @@
+//! The time of both sides' calls on the same models, in one process: `bench`. Each row is a call on one
+//! model, with the time of the Rust, of ours, and ours as a share of the Rust's.
+
+use std::hint::black_box;
+use std::time::{Duration, Instant};
+
+use calls::layout::{LARGEST, Lent};
+use calls::walks::Walk;
+use gensolid_topo::{Model, split_line_edge};
+use models::original::{self, Names};
+use models::plain::Plain;
+
+/// The least time of one call, of several runs of so many calls that each takes long enough.
+fn time(mut call: impl FnMut()) -> Duration {
+    let mut calls = 1;
+    loop {
+        let start = Instant::now();
+        (0..calls).for_each(|_| call());
+        if start.elapsed() > Duration::from_millis(20) {
+            break;
+        }
+        calls *= 2;
+    }
+    let runs = (0..7).map(|_| {
+        let start = Instant::now();
+        (0..calls).for_each(|_| call());
+        start.elapsed() / calls
+    });
+    runs.min().expect("seven runs")
+}
+
+fn micro(time: Duration) -> f64 {
+    time.as_secs_f64() * 1e6
+}
+
+fn row(what: &str, rust: Duration, ours: Duration) {
+    println!(
+        "  {what:24} Rust {:>9.3} us, ours {:>9.3} us, ratio {:.3}",
+        micro(rust),
+        micro(ours),
+        ours.as_secs_f64() / rust.as_secs_f64()
+    );
+}
+
+fn model(names: &Names, plain: &mut Plain) -> Model {
+    original::build(plain, names).expect("the Rust makes it")
+}
+
+fn main() {
+    let names = Names::new();
+    let mut models = Vec::new();
+    for (what, bodies, sides) in [
+        ("a box", 1, 4),
+        ("a prism of 500 sides", 1, 500),
+        ("60 bodies", 60, 4),
+    ] {
+        models.push((what, model(&names, &mut Plain::prisms(bodies, sides))));
+    }
+    let mut split = model(&names, &mut Plain::prisms(1, 500));
+    let edges = original::read(&split, &names).edges;
+    for (id, _) in edges
+        .iter()
+        .enumerate()
+        .filter(|(_, edge)| edge.fins.len() == 2)
+        .take(500)
+    {
+        split_line_edge(&mut split, names.edges[id], 0.5).expect("a split");
+    }
+    models.insert(2, ("a body with 2,000 edges", split));
+
+    for (what, model) in &models {
+        let plain = original::read(model, &names);
+        for (lent, room) in [
+            ("capacities as used", plain.used()),
+            ("the largest", LARGEST),
+        ] {
+            println!("{what}, {lent}");
+            let lent = Lent::holding(&plain, room, 0, 0.0);
+            let body = names.bodies[0];
+            let test = time(|| {
+                black_box(black_box(&lent).precision().expect("readable"));
+            });
+            println!(
+                "  {:24} {:>24} {:>9.3} us",
+                "the test of refusal 9",
+                "",
+                micro(test)
+            );
+            let rust = [
+                time(|| drop(black_box(model.body_faces(body)))),
+                time(|| drop(black_box(model.body_edges(body)))),
+                time(|| drop(black_box(model.body_vertices(body)))),
+            ];
+            let mut walk = Walk::new(&lent, 4096, 0);
+            for (which, rust) in rust.into_iter().enumerate() {
+                let ours = time(|| {
+                    black_box(walk.call(black_box(&lent), which, 0));
+                });
+                row(["faces", "edges", "vertices"][which], rust, ours);
+            }
+        }
+    }
+}

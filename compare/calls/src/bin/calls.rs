@@ -1,0 +1,338 @@
+//! Random models in the Rust and in lent memory, compared: `calls [models] [seed]`. The exit status is
+//! 1 where anything differs.
+
+use std::env;
+use std::process::ExitCode;
+
+use calls::layout::{LARGEST, LISTS, Lent};
+use calls::operations::{Operation, Record, sequence};
+use calls::spoil::spoil;
+use calls::tally::Tally;
+use calls::walks::Walk;
+use calls::wrong::{WRONGS, Wrong};
+use gensolid_topo::Model;
+use models::original::{self, Names};
+use models::plain::Plain;
+use models::random::Random;
+use models::{Made, Sort, made};
+
+/// Capacities for a model: at times just what it has, at times a few more, rarely the largest.
+fn room(plain: &Plain, random: &mut Random) -> [usize; 10] {
+    let used = plain.used();
+    let spare = random.pick(&[1, 1, 3, 9]);
+    if random.one_in(2000) {
+        return LARGEST;
+    }
+    std::array::from_fn(|k| (used[k] + random.below(spare)).min(LARGEST[k]))
+}
+
+/// Making an empty model, whatever the memory holds, and a precision that is none.
+fn empty(tally: &mut Tally, precision: f64, room: [usize; 10], random: &mut Random) -> Lent {
+    let mut lent = Lent::new(room, random.bits() as u32, f64::from_bits(random.bits()));
+    let before = lent.clone();
+    let bad = random.pick(&[0.0, -0.0, -1.0, f64::NAN, f64::INFINITY]);
+    let given = (lent.make(bad), lent == before);
+    tally.same("a precision that is none", &(1, true), &given, || {
+        format!("{bad:?}")
+    });
+    tally.same("making", &0, &lent.make(precision), || "make".into());
+    lent
+}
+
+/// The model by operations on both sides, each answer compared, and all records.
+fn built(
+    tally: &mut Tally,
+    names: &Names,
+    made: &Made,
+    lent: &mut Lent,
+    random: &mut Random,
+    wrong: Option<&Wrong>,
+) {
+    let mut model = Model::new(*made.model.precision());
+    for operation in sequence(&made.plain, random) {
+        let rust = operation.original(&mut model, names, &made.model);
+        let other = wrong.and_then(|wrong| wrong.1(&operation));
+        let ours = other.as_ref().unwrap_or(&operation).ours(lent);
+        tally.met(operation.name(), rust);
+        tally.same("operations", &rust, &ours, || format!("{operation:?}"));
+        if random.one_in(400) {
+            records(tally, &original::read(&model, names), lent);
+        }
+    }
+    let rust = original::read(&model, names);
+    assert_eq!(
+        rust.numbers(),
+        made.plain.numbers(),
+        "the sequence makes the model"
+    );
+    records(tally, &rust, lent);
+}
+
+/// One record more than the table has slots: the Rust does not limit it.
+fn beyond(tally: &mut Tally, plain: &Plain, lent: &mut Lent) {
+    for k in 0..10 {
+        if lent.words[k] == 0 || (lent.words[k] as usize) < lent.room[k] {
+            continue;
+        }
+        let operation = Operation::Insert(Record::of(plain, k, 0));
+        let before = lent.clone();
+        let given = (operation.ours(lent), *lent == before);
+        tally.same("inserts into a full table", &(8, true), &given, || {
+            format!("table {k}")
+        });
+        tally.listed("the Rust takes a record more than a full table has slots");
+    }
+}
+
+/// A table filled to its largest, and a list to its limit, on both sides, and one more.
+fn filled(tally: &mut Tally, names: &Names, plain: &Plain, finished: &Model) {
+    for k in 0..10 {
+        tally.begin(format!("table {k} filled"));
+        let mut room = [1; 10];
+        room[k] = LARGEST[k];
+        let mut lent = Lent::new(room, 7, 7.0);
+        let mut model = Model::new(*finished.precision());
+        tally.same("making", &0, &lent.make(plain.precision), || "make".into());
+        let operation = Operation::Insert(Record::of(plain, k, 0));
+        for _ in 0..LARGEST[k] {
+            // The Rust takes its carriers from a finished model, by number.
+            let rust = match k {
+                8 | 9 => 0,
+                _ => operation.original(&mut model, names, finished),
+            };
+            let ours = operation.ours(&mut lent);
+            tally.same("fills", &rust, &ours, || format!("{operation:?}"));
+        }
+        if k < 8 {
+            records(tally, &original::read(&model, names), &lent);
+            let rust = operation.original(&mut model, names, finished);
+            tally.same("fills", &0, &rust, || "the Rust takes it".into());
+        }
+        beyond(tally, plain, &mut lent);
+    }
+    for (j, &(k, _, limit, _)) in LISTS.iter().enumerate() {
+        tally.begin(format!("list {j} filled"));
+        let mut lent = Lent::new([2; 10], 7, 7.0);
+        let mut model = Model::new(*finished.precision());
+        tally.same("making", &0, &lent.make(plain.precision), || "make".into());
+        let record = Operation::Insert(Record::of(plain, k, 0));
+        let appends = (0..limit).map(|id| Operation::Append(j, 1, id));
+        for operation in [record.clone(), record].into_iter().chain(appends) {
+            let rust = operation.original(&mut model, names, finished);
+            let ours = operation.ours(&mut lent);
+            tally.same("fills", &rust, &ours, || format!("{operation:?}"));
+        }
+        records(tally, &original::read(&model, names), &lent);
+        let operation = Operation::Append(j, 1, 0);
+        let before = lent.clone();
+        let rust = operation.original(&mut model, names, finished);
+        let given = (rust, operation.ours(&mut lent), lent == before);
+        tally.same("appends to a full list", &(0, 8, true), &given, || {
+            format!("list {j}")
+        });
+        tally.listed("the Rust takes an entry more than a list's limit");
+    }
+}
+
+/// All records of all tables, read from both sides.
+fn records(tally: &mut Tally, rust: &Plain, lent: &Lent) {
+    tally.compared("records", rust.used().iter().sum());
+    match lent.read() {
+        Ok(ours) if ours.numbers() == rust.numbers() => {}
+        Ok(ours) => tally.differs("records", || {
+            let (rust, ours) = (rust.numbers(), ours.numbers());
+            let table = (0..rust.len()).find(|&k| rust[k] != ours[k]);
+            let table = table.expect("the lists differ");
+            format!(
+                "table {table}: expected {:?}, ours {:?}",
+                rust[table], ours[table]
+            )
+        }),
+        Err(number) => tally.differs("records", || format!("refused with {number}")),
+    }
+}
+
+/// The three walks of each body and of one that is missing, at times into a list that is too short or
+/// with marks that are.
+fn walks(tally: &mut Tally, names: &Names, model: &Model, lent: &Lent, random: &mut Random) {
+    const WALKS: [&str; 3] = ["walk of faces", "walk of edges", "walk of vertices"];
+    for body in 0..=lent.words[0] as usize {
+        let rust = original::walks(model, names, body);
+        for (which, rust) in rust.into_iter().enumerate() {
+            tally.met(WALKS[which], &rust.words);
+            let mut expected = rust.numbers;
+            let ids = expected.len() - 1;
+            let list = match random.below(8) {
+                0 if expected[0] == 0 && ids > 0 => {
+                    // The Rust does not limit its lists.
+                    expected = vec![8];
+                    tally.listed("a walk's list that is too short");
+                    random.below(ids)
+                }
+                1 => ids,
+                _ => ids + random.below(40),
+            };
+            let mut walk = Walk::new(lent, list, random.bits() as u8);
+            if random.one_in(16) {
+                let marks = &mut walk.marks[random.below(which + 1)];
+                if marks.pop().is_some() {
+                    expected = vec![8];
+                    tally.listed("marks that are too short");
+                }
+            }
+            let given = walk.answer(lent, which, body);
+            tally.same(WALKS[which], &expected, &given, || format!("body {body}"));
+        }
+    }
+}
+
+/// Records, lists and places that are not there.
+fn missing(tally: &mut Tally, plain: &Plain, lent: &Lent, random: &mut Random) {
+    let used = plain.used();
+    for id in [random.below(4), random.pick(&[1 << 20, usize::MAX])] {
+        let expected = used.map(|n| if id < n { 0 } else { 2 });
+        tally.same("lookups of any id", &expected, &lent.refusals(id), || {
+            format!("id {id}")
+        });
+    }
+    let expected = Err(1);
+    let asked = random.pick(&[8, 9, usize::MAX]);
+    let given = lent.entry(asked, random.below(3), random.below(3));
+    tally.same("a list that is none", &expected, &given, || {
+        format!("list {asked}")
+    });
+    let far = random.pick(&[1 << 20, usize::MAX]);
+    let expected = Err(if used[0] == 0 { 2 } else { 1 });
+    let given = lent.entry(0, 0, far);
+    tally.same("a place that is none", &expected, &given, || {
+        format!("place {far}")
+    });
+}
+
+/// Memory that cannot be read: 9, and nothing is altered.
+fn unreadable(tally: &mut Tally, lent: &Lent, random: &mut Random) {
+    let mut spoiled = lent.clone();
+    let mut what = "";
+    for _ in 0..random.pick(&[1, 1, 3]) {
+        if spoiled.readable() {
+            what = spoil(&mut spoiled, random);
+        }
+    }
+    let readable = spoiled.readable();
+    tally.met(what, if readable { "readable" } else { "not readable" });
+    let before = spoiled.clone();
+    let nine = |number: u32| number == 9;
+    let id = random.below(3);
+    let mut numbers = spoiled.refusals(id).to_vec();
+    numbers.extend(spoiled.precision().err().or(Some(0)));
+    numbers.extend(spoiled.entry(random.below(9), id, 0).err().or(Some(0)));
+    // A room above the largest asks for more marks than there can be.
+    if spoiled.room.iter().zip(LARGEST).all(|(&n, most)| n <= most) {
+        let which = random.below(3);
+        let mut walk = Walk::new(&spoiled, 100, 1);
+        let answer = walk.answer(&spoiled, which, id);
+        numbers.push(answer[0] as u32);
+    }
+    tally.compared("refusals 9", numbers.len());
+    if numbers.iter().any(|&n| nine(n) == readable) {
+        tally.differs("refusals 9", || {
+            format!("{what}: readable {readable}, ours {numbers:?}")
+        });
+    }
+    if spoiled != before {
+        tally.differs("refusals 9", || format!("{what}: the memory is altered"));
+    }
+}
+
+/// Each wrong station must be seen on one of the models.
+fn wrongs(count: u64, seed: u64) -> ExitCode {
+    let names = Names::new();
+    let mut unseen = 0;
+    for wrong in &WRONGS {
+        let mut tally = Tally::quiet();
+        let mut number = 0;
+        while (tally.models as u64) < count && tally.differing() == 0 {
+            number += 1;
+            let Some(made) = made(&names, Sort::Several, seed, number, None) else {
+                continue;
+            };
+            tally.begin(String::new());
+            let mut random = Random::new(seed, number, 200);
+            let room = made.plain.used().map(|n| n + 1);
+            let mut lent = empty(&mut tally, made.plain.precision, room, &mut random);
+            built(
+                &mut tally,
+                &names,
+                &made,
+                &mut lent,
+                &mut random,
+                Some(wrong),
+            );
+        }
+        if tally.differing() == 0 {
+            println!("a station that {}: not seen on {count} models", wrong.0);
+            unseen += 1;
+        } else {
+            println!("a station that {}: seen on model {number}", wrong.0);
+        }
+    }
+    println!("{} wrong stations, {unseen} not seen", WRONGS.len());
+    ExitCode::from(u8::from(unseen > 0))
+}
+
+fn main() -> ExitCode {
+    let words: Vec<String> = env::args().skip(1).collect();
+    let (wrong, numbers) = match words.split_first() {
+        Some((first, rest)) if first == "wrong" => (true, rest),
+        _ => (false, &words[..]),
+    };
+    let numbers: Result<Vec<u64>, _> = numbers.iter().map(|a| a.parse()).collect();
+    match numbers.as_deref() {
+        Ok([]) if wrong => wrongs(1000, 1),
+        Ok([count, seed]) if wrong => wrongs(*count, *seed),
+        Ok([]) => compare(20_000, 1),
+        Ok([count]) if !wrong => compare(*count, 1),
+        Ok([count, seed]) => compare(*count, *seed),
+        _ => {
+            eprintln!("usage: calls [wrong] [models] [seed]");
+            ExitCode::from(2)
+        }
+    }
+}
+
+fn compare(count: u64, seed: u64) -> ExitCode {
+    let names = Names::new();
+    let mut tally = Tally::default();
+    let mut number = 0;
+    let mut fillable = true;
+    while (tally.models as u64) < count {
+        number += 1;
+        let Some(made) = made(&names, Sort::Several, seed, number, None) else {
+            continue;
+        };
+        let plain = &made.plain;
+        // Once, with the first model that has a record of each table.
+        if fillable && plain.used().iter().all(|&n| n > 0) {
+            filled(&mut tally, &names, plain, &made.model);
+            fillable = false;
+        }
+        tally.begin(format!(
+            "model {number} of seed {seed}: {}",
+            made.told.join("; ")
+        ));
+        tally.met("damages", made.told.len() - 1);
+        let mut random = Random::new(seed, number, 200);
+        let room = room(plain, &mut random);
+        let mut lent = empty(&mut tally, plain.precision, room, &mut random);
+        built(&mut tally, &names, &made, &mut lent, &mut random, None);
+        beyond(&mut tally, plain, &mut lent);
+        missing(&mut tally, plain, &lent, &mut random);
+        walks(&mut tally, &names, &made.model, &lent, &mut random);
+        unreadable(&mut tally, &lent, &mut random);
+        // The same model laid out with none of the calls, and noise around it.
+        let noise = (random.bits() as u32, f64::from_bits(random.bits()));
+        let laid = Lent::holding(plain, room, noise.0, noise.1);
+        records(&mut tally, plain, &laid);
+    }
+    tally.end()
+}

@@ -1,0 +1,10 @@
+//! Whole models in the Rust and in lent memory, asked the same through the station's calls.
+
+pub mod edits;
+pub mod layout;
+pub mod operations;
+pub mod ours;
+pub mod spoil;
+pub mod tally;
+pub mod walks;
+pub mod wrong;

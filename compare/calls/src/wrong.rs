@@ -1,0 +1,99 @@
+//! Wrong stations: each does another operation in the place of one, or gives another answer. The
+//! comparison must see every one of them.
+
+use models::plain::Carrier;
+
+use crate::operations::{Operation, Record};
+
+/// What a wrong station is, and what it does in the place of an operation; none where it does that one.
+pub type Wrong = (&'static str, fn(&Operation) -> Option<Operation>);
+
+pub const WRONGS: [Wrong; 14] = [
+    ("strikes the entry before", |operation| match *operation {
+        Operation::Strike(j, i, place) if place > 0 => Some(Operation::Strike(j, i, place - 1)),
+        _ => None,
+    }),
+    (
+        "puts an entry behind the others",
+        |operation| match *operation {
+            Operation::Put(j, i, _, id) => Some(Operation::Append(j, i, id)),
+            _ => None,
+        },
+    ),
+    (
+        "appends to the record before",
+        |operation| match *operation {
+            Operation::Append(j, i, id) if i > 0 => Some(Operation::Append(j, i - 1, id)),
+            _ => None,
+        },
+    ),
+    ("takes wire edges for faces", |operation| match *operation {
+        Operation::Append(3, i, id) => Some(Operation::Append(2, i, id)),
+        _ => None,
+    }),
+    ("keeps ids of 31 bits", |operation| match *operation {
+        Operation::Append(j, i, id) => Some(Operation::Append(j, i, id & 0x7fff_ffff)),
+        _ => None,
+    }),
+    (
+        "sets a record that is missing",
+        |operation| match operation {
+            Operation::Set(i, record) if *i > 0 => Some(Operation::Set(i - 1, record.clone())),
+            _ => None,
+        },
+    ),
+    ("exchanges front and back", |operation| match operation {
+        Operation::Insert(Record::Face([front, back, surface], positive)) => Some(
+            Operation::Insert(Record::Face([*back, *front, *surface], *positive)),
+        ),
+        _ => None,
+    }),
+    ("makes every fin positive", |operation| match operation {
+        Operation::Insert(Record::Fin(ids, _, pcurve)) => {
+            Some(Operation::Insert(Record::Fin(*ids, true, *pcurve)))
+        }
+        _ => None,
+    }),
+    ("loses the pcurve mark", |operation| match operation {
+        Operation::Insert(Record::Fin(ids, positive, _)) => {
+            Some(Operation::Insert(Record::Fin(*ids, *positive, false)))
+        }
+        _ => None,
+    }),
+    ("loses an edge's tolerance", |operation| match operation {
+        Operation::Set(i, Record::Edge(ids, Some(_))) => {
+            Some(Operation::Set(*i, Record::Edge(*ids, None)))
+        }
+        _ => None,
+    }),
+    (
+        "takes a tolerance that is none",
+        |operation| match operation {
+            Operation::Insert(Record::Vertex(p, Some(t))) if t.is_nan() || *t < 0.0 => {
+                Some(Operation::Insert(Record::Vertex(*p, Some(1.0))))
+            }
+            _ => None,
+        },
+    ),
+    ("loses the sign of a zero", |operation| match operation {
+        Operation::Insert(Record::Vertex(p, t)) => {
+            Some(Operation::Insert(Record::Vertex(p.map(|x| x + 0.0), *t)))
+        }
+        _ => None,
+    }),
+    ("turns planes round", |operation| match operation {
+        Operation::Insert(Record::Surface(Carrier::Plane(o, n))) => Some(Operation::Insert(
+            Record::Surface(Carrier::Plane(*o, n.map(|x| -x))),
+        )),
+        _ => None,
+    }),
+    (
+        "says solid where a region is void",
+        |operation| match operation {
+            Operation::Set(i, Record::Region(body, _)) => {
+                Some(Operation::Set(*i, Record::Region(*body, true)))
+            }
+            _ => None,
+        },
+    ),
+];

@@ -1,0 +1,84 @@
+//! Random models, sound and damaged, as plain records and in the Rust's `Model`.
+
+pub mod damage;
+pub mod original;
+pub mod plain;
+pub mod random;
+pub mod shapes;
+
+use gensolid_topo::Model;
+
+use original::Names;
+use plain::Plain;
+use random::Random;
+
+/// A model, damaged, with what was done to it and edges near to that.
+pub struct Made {
+    pub model: Model,
+    pub plain: Plain,
+    pub told: Vec<String>,
+    pub near: Vec<usize>,
+}
+
+/// Which models are made.
+#[derive(Clone, Copy, PartialEq)]
+pub enum Sort {
+    /// One body or two, of a size that the prover evaluates.
+    Small,
+    /// Up to five bodies, larger ones among them, with ids above every table.
+    Several,
+}
+
+/// The model of a number; none where the Rust makes no such line, plane or tolerance.
+pub fn made(
+    names: &Names,
+    sort: Sort,
+    seed: u64,
+    number: u64,
+    kept: Option<&[usize]>,
+) -> Option<Made> {
+    let mut random = Random::new(seed, number, 0);
+    let (mut plain, shape) = match sort {
+        Sort::Small => Plain::sound(&mut random),
+        Sort::Several => Plain::several(&mut random),
+    };
+    let damages = random.pick(&[0, 1, 1, 2, 2, 3, 4]);
+    let mut told = vec![shape];
+    let mut near = Vec::new();
+    for k in 0..damages {
+        if kept.is_some_and(|kept| !kept.contains(&k)) {
+            continue;
+        }
+        let mut random = Random::new(seed, number, k as u64 + 1);
+        let (what, edge) = damage::damage(&mut plain, &mut random);
+        told.push(format!("damage {k}, {what}"));
+        near.extend(edge);
+    }
+    if sort == Sort::Several {
+        damage::stray(&mut plain, &mut random);
+    }
+    let model = original::build(&mut plain, names).ok()?;
+    assert_eq!(original::read(&model, names).numbers(), plain.numbers());
+    Some(Made {
+        model,
+        plain,
+        told,
+        near,
+    })
+}
+
+/// Near the ends, around the precision, and no fraction at all. The bounds are an answer's numbers.
+pub fn fraction(random: &mut Random, precision: f64, bounds: &[u64]) -> f64 {
+    let length = match bounds {
+        [0, lo, hi] => f64::from_bits(*hi) - f64::from_bits(*lo),
+        _ => 1.0,
+    };
+    let part = precision / length;
+    let times = random.pick(&[0.9, 0.999, 1.0, 1.0 + 4.0 * f64::EPSILON, 1.001, 2.0]);
+    match random.below(4) {
+        0 => part * times,
+        1 => 1.0 - part * times,
+        2 => random.pick(&[1.0e-4, 1.0 - 1.0e-12, f64::MIN_POSITIVE, 1.0f64.next_down()]),
+        _ => random.pick(&[0.0, -0.0, 1.0, -0.25, 1.5, f64::NAN, f64::INFINITY]),
+    }
+}
