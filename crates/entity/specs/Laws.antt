@@ -1,29 +1,18 @@
--- What the proofs of the records and of the lookups cite. Assumes nothing.
+-- What the proofs of the records cite. Assumes nothing.
 use Prim.Native.Nat.{ℕ, zero, suc, _<_, _≤_}
 use mathlib.Core.Path.{_≡_, refl, sym, ap, _∙_, subst}
-use mathlib.Core.Bool.{Bool, true, false}
 use mathlib.Core.Logic.{inl, inr}
 use mathlib.Core.List.{List}
 use native.Mathlib.Nat.{eq-or-lt-of-le, le-trans, lt-of-lt-of-le}
 use native.Mathlib.Omega.{arith}
-use borrow.Author.Tests.{ltb-true}
-use lib.Dec.{ltb}
 use lib.Ieee.{Float}
-use lib.ListN.{length, drop, length-drop}
-use lib.Seq.{length-take-le}
-use Rattle.geometry.specs.Refuse.{_unless_, _then_, answer}
-use Rattle.meaning.specs.Model.{Table, general}
-use Rattle.lists.specs.Tests.{refused-answer}
+use lib.ListN.{length}
+use Rattle.meaning.specs.Model.{general}
 use Rattle.model.specs.Layout.{wordStrides, realStrides, word, wordsNeeded, realsNeeded, wordsOf, realsOf}
-use Rattle.model.specs.Decode.{listAt, kindOf, decode}
-use Rattle.model.specs.Readable.{readable}
+use Rattle.model.specs.Decode.{kindOf}
 use Rattle.model.specs.Entries.{listTables, listPlaces}
-use Rattle.model.specs.Fit.{Inside, Sized, Fit, Held, Lists}
-use Rattle.model.specs.Laws.{words-length, reals-length, before-tables, list-held, fit-of}
-use Rattle.entity.specs.declared.lookups.EntityRef.{EntityRef}
-use Rattle.entity.specs.declared.lookups.EntityRef.the-variants as Entities
-use Rattle.entity.specs.Lookup.{contained, lookupRefusal, looked}
-use Rattle.entity.specs.Inner.{refusalAt, tableOf, idOf}
+use Rattle.model.specs.Fit.{Inside, Sized, Held, Lists}
+use Rattle.model.specs.Laws.{words-length, reals-length, before-tables, list-held}
 
 -- ---- a record, read off its words
 
@@ -64,48 +53,3 @@ carrier-strides k h g = elim (eq-or-lt-of-le h) [
   | inl e ↦ (ap (word wordStrides) (sym e), ap (word realStrides) (sym e))
   | inr l ↦ let e : k ≡ 9 = omega arith in (ap (word wordStrides) e, ap (word realStrides) e)
 ]
-
--- ---- a lookup
-
-passed : (a b : Bool) → 9 unless a then 2 unless b ≡ 0 → (a ≡ true) × (b ≡ true)
-passed true true e = (refl, refl)
-passed true false e = absurd (omega arith)
-passed false b e = absurd (omega arith)
-
--- no refusal: the memory is readable, and the record used
-pub looked-up : (room w : List ℕ) (x : List Float) (k i m : ℕ) → m ≡ refusalAt room w x k i → m ≡ 0 → Fit room w x × (i < word w k)
-looked-up room w x k i m e z =
-    let p = passed (readable room w x) (ltb i (word w k)) (sym e ∙ z) in
-    (fit-of room w x (p .0), ltb-true i (word w k) (p .1))
-
--- the two ways out of a lookup
-module _ (room w : List ℕ) (x : List Float) {R B A : Type 0} (is : B → A) (refused : ℕ → A) (seen : R → B) (t : Table R) (i m : ℕ)
-    (e : m ≡ lookupRefusal room w x t i) where
-  pub look-refused : (m ≡ 0 → ⊥) → refused m ≡ looked room w x is refused seen t i
-  look-refused h = subst (λ (n : ℕ). refused m ≡ answer is refused n (seen (t .slot i))) e (refused-answer is refused m (seen (t .slot i)) h)
-
-  pub look-given : (r : B) → m ≡ 0 → r ≡ seen (t .slot i) → is r ≡ looked room w x is refused seen t i
-  look-given r z h = subst (λ (n : ℕ). is r ≡ answer is refused n (seen (t .slot i))) (sym z ∙ e) (ap is h)
-
--- an entity's table is one of the first eight, and the entity exists where its id is below that table's count
-pub table-small : (e : EntityRef) → tableOf e < 8
-unfolding tableOf
-table-small (Entities.Body i) = omega arith
-table-small (Entities.Region i) = omega arith
-table-small (Entities.Shell i) = omega arith
-table-small (Entities.Face i) = omega arith
-table-small (Entities.Loop i) = omega arith
-table-small (Entities.Fin i) = omega arith
-table-small (Entities.Edge i) = omega arith
-table-small (Entities.Vertex i) = omega arith
-
-pub contained-at : (room w : List ℕ) (x : List Float) (e : EntityRef) → ltb (idOf e) (word w (tableOf e)) ≡ contained (decode room w x) e
-unfolding decode tableOf idOf
-contained-at room w x (Entities.Body i) = refl
-contained-at room w x (Entities.Region i) = refl
-contained-at room w x (Entities.Shell i) = refl
-contained-at room w x (Entities.Face i) = refl
-contained-at room w x (Entities.Loop i) = refl
-contained-at room w x (Entities.Fin i) = refl
-contained-at room w x (Entities.Edge i) = refl
-contained-at room w x (Entities.Vertex i) = refl

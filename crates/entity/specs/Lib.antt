@@ -1,4 +1,2 @@
 pub mod Seen
-pub mod Lookup
-pub mod Inner
 pub mod Laws

@@ -1,4 +1,3 @@
-// The records as typed values (entity.rs), and the lookups by id (model.rs).
-pub mod lookups;
+// The records as typed values (entity.rs), read out of the lent memory.
 pub mod records;
 pub mod slots;

@@ -7,34 +7,34 @@ use Rattle.model.specs.declared.entries.Entry.{Entry}
 use Rattle.model.specs.declared.entries.Entry.the-variants as Entries
 use Rattle.edits.specs.declared.Inserted.{Inserted}
 use Rattle.edits.specs.declared.Inserted.the-variants as Inserts
-use Rattle.entity.specs.declared.lookups.PrecisionFound.{PrecisionFound}
-use Rattle.entity.specs.declared.lookups.PrecisionFound.the-variants as Precisions
+use Rattle.lookup.specs.declared.PrecisionFound.{PrecisionFound}
+use Rattle.lookup.specs.declared.PrecisionFound.the-variants as Precisions
 use Rattle.entity.specs.declared.records.Body.{Body}
-use Rattle.entity.specs.declared.lookups.BodyFound.{BodyFound}
-use Rattle.entity.specs.declared.lookups.BodyFound.the-variants as Bodies
+use Rattle.lookup.specs.declared.BodyFound.{BodyFound}
+use Rattle.lookup.specs.declared.BodyFound.the-variants as Bodies
 use Rattle.entity.specs.declared.records.Region.{Region}
-use Rattle.entity.specs.declared.lookups.RegionFound.{RegionFound}
-use Rattle.entity.specs.declared.lookups.RegionFound.the-variants as Regions
+use Rattle.lookup.specs.declared.RegionFound.{RegionFound}
+use Rattle.lookup.specs.declared.RegionFound.the-variants as Regions
 use Rattle.entity.specs.declared.records.Shell.{Shell}
-use Rattle.entity.specs.declared.lookups.ShellFound.{ShellFound}
-use Rattle.entity.specs.declared.lookups.ShellFound.the-variants as Shells
+use Rattle.lookup.specs.declared.ShellFound.{ShellFound}
+use Rattle.lookup.specs.declared.ShellFound.the-variants as Shells
 use Rattle.entity.specs.declared.records.Face.{Face}
-use Rattle.entity.specs.declared.lookups.FaceFound.{FaceFound}
-use Rattle.entity.specs.declared.lookups.FaceFound.the-variants as Faces
+use Rattle.lookup.specs.declared.FaceFound.{FaceFound}
+use Rattle.lookup.specs.declared.FaceFound.the-variants as Faces
 use Rattle.entity.specs.declared.records.Loop.{Loop}
-use Rattle.entity.specs.declared.lookups.LoopFound.{LoopFound}
-use Rattle.entity.specs.declared.lookups.LoopFound.the-variants as Loops
+use Rattle.lookup.specs.declared.LoopFound.{LoopFound}
+use Rattle.lookup.specs.declared.LoopFound.the-variants as Loops
 use Rattle.entity.specs.declared.records.Fin.{Fin}
-use Rattle.entity.specs.declared.lookups.FinFound.{FinFound}
-use Rattle.entity.specs.declared.lookups.FinFound.the-variants as Fins
+use Rattle.lookup.specs.declared.FinFound.{FinFound}
+use Rattle.lookup.specs.declared.FinFound.the-variants as Fins
 use Rattle.entity.specs.declared.records.Edge.{Edge}
-use Rattle.entity.specs.declared.lookups.EdgeFound.{EdgeFound}
-use Rattle.entity.specs.declared.lookups.EdgeFound.the-variants as Edges
+use Rattle.lookup.specs.declared.EdgeFound.{EdgeFound}
+use Rattle.lookup.specs.declared.EdgeFound.the-variants as Edges
 use Rattle.entity.specs.declared.records.Vertex.{Vertex}
-use Rattle.entity.specs.declared.lookups.VertexFound.{VertexFound}
-use Rattle.entity.specs.declared.lookups.VertexFound.the-variants as Vertices
-use Rattle.entity.specs.declared.lookups.CarrierFound.{CarrierFound}
-use Rattle.entity.specs.declared.lookups.CarrierFound.the-variants as Carriers
+use Rattle.lookup.specs.declared.VertexFound.{VertexFound}
+use Rattle.lookup.specs.declared.VertexFound.the-variants as Vertices
+use Rattle.lookup.specs.declared.CarrierFound.{CarrierFound}
+use Rattle.lookup.specs.declared.CarrierFound.the-variants as Carriers
 use Rattle.fields.specs.Fields.{bodyFields, regionFields, shellFields, faceFields, loopFields, finFields, edgeFields, vertexFields, carrierFields, edgeFloats, vertexFloats, carrierFloats}
 
 -- ---- a record's value: its fields, then the lengths of its lists

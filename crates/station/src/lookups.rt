@@ -9,19 +9,19 @@ use crate::crossing::region_value;
 use crate::crossing::shell_value;
 use crate::crossing::vertex_own;
 use crate::crossing::vertex_value;
-use entity::lookups::BodyFound;
-use entity::lookups::CarrierFound;
-use entity::lookups::EdgeFound;
-use entity::lookups::FaceFound;
-use entity::lookups::FinFound;
-use entity::lookups::LoopFound;
-use entity::lookups::RegionFound;
-use entity::lookups::ShellFound;
-use entity::lookups::VertexFound;
 use fields::carrier_fields;
 use fields::carrier_floats;
+use lookup::BodyFound;
+use lookup::CarrierFound;
+use lookup::EdgeFound;
+use lookup::FaceFound;
+use lookup::FinFound;
+use lookup::LoopFound;
+use lookup::RegionFound;
+use lookup::ShellFound;
+use lookup::VertexFound;
 ghost use mathlib.Core.Path.{_≡_};
-ghost use Rattle.entity.specs.Lookup.{bodyAnswer, regionAnswer, shellAnswer, faceAnswer, loopAnswer, finAnswer, edgeAnswer, vertexAnswer, curveAnswer, surfaceAnswer};
+ghost use Rattle.lookup.specs.Lookup.{bodyAnswer, regionAnswer, shellAnswer, faceAnswer, loopAnswer, finAnswer, edgeAnswer, vertexAnswer, curveAnswer, surfaceAnswer};
 ghost use Rattle.station.specs.Crossing.{bodyNumber, bodySlots, regionNumber, regionSlots, shellNumber, shellSlots, faceNumber, faceSlots, loopNumber, loopSlots, finNumber, finSlots, edgeNumber, edgeSlots, edgeReals, vertexNumber, vertexSlots, vertexReals, carrierNumber, carrierSlots, carrierReals};
 
 #[no_mangle]
@@ -35,7 +35,7 @@ pub extern "C" fn brunskerl_body(
     ensures answer { λ r. ⌜ r ≡ bodyNumber (bodyAnswer (now (room .entry)) (now (words .entry)) (now (reals .entry)) id) ⌝ }
     ensures slots { λ _. ⌜ now (value .exit) ≡ bodySlots (bodyAnswer (now (room .entry)) (now (words .entry)) (now (reals .entry)) id) (now (value .entry)) ⌝ }
 {
-    match entity::lookups::body(room, words, reals, id) {
+    match lookup::body(room, words, reals, id) {
         BodyFound::Is(r) => {
             *value = body_value(r);
             0
@@ -55,7 +55,7 @@ pub extern "C" fn brunskerl_region(
     ensures answer { λ r. ⌜ r ≡ regionNumber (regionAnswer (now (room .entry)) (now (words .entry)) (now (reals .entry)) id) ⌝ }
     ensures slots { λ _. ⌜ now (value .exit) ≡ regionSlots (regionAnswer (now (room .entry)) (now (words .entry)) (now (reals .entry)) id) (now (value .entry)) ⌝ }
 {
-    match entity::lookups::region(room, words, reals, id) {
+    match lookup::region(room, words, reals, id) {
         RegionFound::Is(r) => {
             *value = region_value(r);
             0
@@ -75,7 +75,7 @@ pub extern "C" fn brunskerl_shell(
     ensures answer { λ r. ⌜ r ≡ shellNumber (shellAnswer (now (room .entry)) (now (words .entry)) (now (reals .entry)) id) ⌝ }
     ensures slots { λ _. ⌜ now (value .exit) ≡ shellSlots (shellAnswer (now (room .entry)) (now (words .entry)) (now (reals .entry)) id) (now (value .entry)) ⌝ }
 {
-    match entity::lookups::shell(room, words, reals, id) {
+    match lookup::shell(room, words, reals, id) {
         ShellFound::Is(r) => {
             *value = shell_value(r);
             0
@@ -95,7 +95,7 @@ pub extern "C" fn brunskerl_face(
     ensures answer { λ r. ⌜ r ≡ faceNumber (faceAnswer (now (room .entry)) (now (words .entry)) (now (reals .entry)) id) ⌝ }
     ensures slots { λ _. ⌜ now (value .exit) ≡ faceSlots (faceAnswer (now (room .entry)) (now (words .entry)) (now (reals .entry)) id) (now (value .entry)) ⌝ }
 {
-    match entity::lookups::face(room, words, reals, id) {
+    match lookup::face(room, words, reals, id) {
         FaceFound::Is(r) => {
             *value = face_value(r);
             0
@@ -115,7 +115,7 @@ pub extern "C" fn brunskerl_loop(
     ensures answer { λ r. ⌜ r ≡ loopNumber (loopAnswer (now (room .entry)) (now (words .entry)) (now (reals .entry)) id) ⌝ }
     ensures slots { λ _. ⌜ now (value .exit) ≡ loopSlots (loopAnswer (now (room .entry)) (now (words .entry)) (now (reals .entry)) id) (now (value .entry)) ⌝ }
 {
-    match entity::lookups::loop_(room, words, reals, id) {
+    match lookup::loop_(room, words, reals, id) {
         LoopFound::Is(r) => {
             *value = loop_value(r);
             0
@@ -135,7 +135,7 @@ pub extern "C" fn brunskerl_fin(
     ensures answer { λ r. ⌜ r ≡ finNumber (finAnswer (now (room .entry)) (now (words .entry)) (now (reals .entry)) id) ⌝ }
     ensures slots { λ _. ⌜ now (value .exit) ≡ finSlots (finAnswer (now (room .entry)) (now (words .entry)) (now (reals .entry)) id) (now (value .entry)) ⌝ }
 {
-    match entity::lookups::fin(room, words, reals, id) {
+    match lookup::fin(room, words, reals, id) {
         FinFound::Is(r) => {
             *value = fin_value(r);
             0
@@ -157,7 +157,7 @@ pub extern "C" fn brunskerl_edge(
     ensures slots { λ _. ⌜ now (value .exit) ≡ edgeSlots (edgeAnswer (now (room .entry)) (now (words .entry)) (now (reals .entry)) id) (now (value .entry)) ⌝ }
     ensures floats { λ _. ⌜ now (floats .exit) ≡ edgeReals (edgeAnswer (now (room .entry)) (now (words .entry)) (now (reals .entry)) id) (now (floats .entry)) ⌝ }
 {
-    match entity::lookups::edge(room, words, reals, id) {
+    match lookup::edge(room, words, reals, id) {
         EdgeFound::Is(r) => {
             *value = edge_value(r);
             *floats = edge_own(r);
@@ -180,7 +180,7 @@ pub extern "C" fn brunskerl_vertex(
     ensures slots { λ _. ⌜ now (value .exit) ≡ vertexSlots (vertexAnswer (now (room .entry)) (now (words .entry)) (now (reals .entry)) id) (now (value .entry)) ⌝ }
     ensures floats { λ _. ⌜ now (floats .exit) ≡ vertexReals (vertexAnswer (now (room .entry)) (now (words .entry)) (now (reals .entry)) id) (now (floats .entry)) ⌝ }
 {
-    match entity::lookups::vertex(room, words, reals, id) {
+    match lookup::vertex(room, words, reals, id) {
         VertexFound::Is(r) => {
             *value = vertex_value(r);
             *floats = vertex_own(r);
@@ -203,7 +203,7 @@ pub extern "C" fn brunskerl_curve(
     ensures slots { λ _. ⌜ now (value .exit) ≡ carrierSlots (curveAnswer (now (room .entry)) (now (words .entry)) (now (reals .entry)) id) (now (value .entry)) ⌝ }
     ensures floats { λ _. ⌜ now (floats .exit) ≡ carrierReals (curveAnswer (now (room .entry)) (now (words .entry)) (now (reals .entry)) id) (now (floats .entry)) ⌝ }
 {
-    match entity::lookups::curve(room, words, reals, id) {
+    match lookup::curve(room, words, reals, id) {
         CarrierFound::Is(r) => {
             *value = carrier_fields(r);
             *floats = carrier_floats(r);
@@ -226,7 +226,7 @@ pub extern "C" fn brunskerl_surface(
     ensures slots { λ _. ⌜ now (value .exit) ≡ carrierSlots (surfaceAnswer (now (room .entry)) (now (words .entry)) (now (reals .entry)) id) (now (value .entry)) ⌝ }
     ensures floats { λ _. ⌜ now (floats .exit) ≡ carrierReals (surfaceAnswer (now (room .entry)) (now (words .entry)) (now (reals .entry)) id) (now (floats .entry)) ⌝ }
 {
-    match entity::lookups::surface(room, words, reals, id) {
+    match lookup::surface(room, words, reals, id) {
         CarrierFound::Is(r) => {
             *value = carrier_fields(r);
             *floats = carrier_floats(r);

@@ -1,9 +1,9 @@
 // Making an empty model, and its precision.
-use entity::lookups::PrecisionFound;
-use entity::lookups::precision;
+use lookup::PrecisionFound;
+use lookup::precision;
 ghost use mathlib.Core.Path.{_≡_};
 ghost use Rattle.edits.specs.Answers.{makeNumber, makeWords, makeReals};
-ghost use Rattle.entity.specs.Lookup.{precisionAnswer};
+ghost use Rattle.lookup.specs.Lookup.{precisionAnswer};
 ghost use Rattle.station.specs.Crossing.{precisionNumber, precisionSlots};
 
 // An empty model with its precision.

@@ -1,0 +1,3 @@
+pub mod Lookup
+pub mod Inner
+pub mod Laws

@@ -1,0 +1,90 @@
+-- What the lookups answer (model.rs; 01, "lookups"), of the model that the lent memory holds. Definitions only.
+use Prim.Native.Nat.{ℕ}
+use mathlib.Core.Bool.{Bool}
+use mathlib.Core.List.{List}
+use lib.Ieee.{Float}
+use Rattle.geometry.specs.Refuse.{_unless_, _then_, answer}
+use Rattle.meaning.specs.Model.{Model, Table, has}
+use Rattle.model.specs.Decode.{decode}
+use Rattle.model.specs.Readable.{readable}
+use Rattle.entity.specs.Seen.{seenBody, seenRegion, seenShell, seenFace, seenLoop, seenFin, seenEdge, seenVertex}
+use Rattle.lookup.specs.declared.BodyFound.{BodyFound}
+use Rattle.lookup.specs.declared.BodyFound.the-variants as Bodies
+use Rattle.lookup.specs.declared.RegionFound.{RegionFound}
+use Rattle.lookup.specs.declared.RegionFound.the-variants as Regions
+use Rattle.lookup.specs.declared.ShellFound.{ShellFound}
+use Rattle.lookup.specs.declared.ShellFound.the-variants as Shells
+use Rattle.lookup.specs.declared.FaceFound.{FaceFound}
+use Rattle.lookup.specs.declared.FaceFound.the-variants as Faces
+use Rattle.lookup.specs.declared.LoopFound.{LoopFound}
+use Rattle.lookup.specs.declared.LoopFound.the-variants as Loops
+use Rattle.lookup.specs.declared.FinFound.{FinFound}
+use Rattle.lookup.specs.declared.FinFound.the-variants as Fins
+use Rattle.lookup.specs.declared.EdgeFound.{EdgeFound}
+use Rattle.lookup.specs.declared.EdgeFound.the-variants as Edges
+use Rattle.lookup.specs.declared.VertexFound.{VertexFound}
+use Rattle.lookup.specs.declared.VertexFound.the-variants as Vertices
+use Rattle.lookup.specs.declared.CarrierFound.{CarrierFound}
+use Rattle.lookup.specs.declared.CarrierFound.the-variants as Carriers
+use Rattle.lookup.specs.declared.PrecisionFound.{PrecisionFound}
+use Rattle.lookup.specs.declared.PrecisionFound.the-variants as Precisions
+use Rattle.lookup.specs.declared.Contained.{Contained}
+use Rattle.lookup.specs.declared.Contained.the-variants as Contents
+use Rattle.lookup.specs.declared.EntityRef.{EntityRef}
+use Rattle.lookup.specs.declared.EntityRef.the-variants as Entities
+
+-- `contains`: whether the entity exists
+abbrev pub contained : Model → EntityRef → Bool
+contained m (Entities.Body i) = has (m .bodies) i
+contained m (Entities.Region i) = has (m .regions) i
+contained m (Entities.Shell i) = has (m .shells) i
+contained m (Entities.Face i) = has (m .faces) i
+contained m (Entities.Loop i) = has (m .loops) i
+contained m (Entities.Fin i) = has (m .fins) i
+contained m (Entities.Edge i) = has (m .edges) i
+contained m (Entities.Vertex i) = has (m .vertices) i
+
+module _ (room w : List ℕ) (x : List Float) where
+  -- "Every call tests 9 first"; "2: a named or needed record does not exist" (`lookup`)
+  abbrev pub lookupRefusal : {R : Type 0} → Table R → ℕ → ℕ
+  lookupRefusal t i = 9 unless readable room w x then 2 unless has t i
+
+  -- what is seen of record i of a table, or the refusal
+  abbrev pub looked : {R B A : Type 0} → (B → A) → (ℕ → A) → (R → B) → Table R → ℕ → A
+  looked is refused seen t i = answer is refused (lookupRefusal t i) (seen (t .slot i))
+
+  unfoldable pub bodyAnswer : ℕ → BodyFound
+  bodyAnswer = looked Bodies.Is Bodies.Refused seenBody (decode room w x .bodies)
+
+  unfoldable pub regionAnswer : ℕ → RegionFound
+  regionAnswer = looked Regions.Is Regions.Refused seenRegion (decode room w x .regions)
+
+  unfoldable pub shellAnswer : ℕ → ShellFound
+  shellAnswer = looked Shells.Is Shells.Refused seenShell (decode room w x .shells)
+
+  unfoldable pub faceAnswer : ℕ → FaceFound
+  faceAnswer = looked Faces.Is Faces.Refused seenFace (decode room w x .faces)
+
+  unfoldable pub loopAnswer : ℕ → LoopFound
+  loopAnswer = looked Loops.Is Loops.Refused seenLoop (decode room w x .loops)
+
+  unfoldable pub finAnswer : ℕ → FinFound
+  finAnswer = looked Fins.Is Fins.Refused seenFin (decode room w x .fins)
+
+  unfoldable pub edgeAnswer : ℕ → EdgeFound
+  edgeAnswer = looked Edges.Is Edges.Refused seenEdge (decode room w x .edges)
+
+  unfoldable pub vertexAnswer : ℕ → VertexFound
+  vertexAnswer = looked Vertices.Is Vertices.Refused seenVertex (decode room w x .vertices)
+
+  unfoldable pub curveAnswer : ℕ → CarrierFound
+  curveAnswer = looked Carriers.Is Carriers.Refused (λ c. c) (decode room w x .curves)
+
+  unfoldable pub surfaceAnswer : ℕ → CarrierFound
+  surfaceAnswer = looked Carriers.Is Carriers.Refused (λ c. c) (decode room w x .surfaces)
+
+  unfoldable pub precisionAnswer : PrecisionFound
+  precisionAnswer = answer Precisions.Is Precisions.Refused (9 unless readable room w x) (decode room w x .precision)
+
+  unfoldable pub containsAnswer : EntityRef → Contained
+  containsAnswer e = answer Contents.Is Contents.Refused (9 unless readable room w x) (contained (decode room w x) e)

@@ -1,0 +1,268 @@
+// The lookups of model.rs. Each tests 9, then 2; an id that a call is asked with is a usize, as a place in a list is.
+use entity::records::Body;
+use entity::records::Edge;
+use entity::records::Face;
+use entity::records::Fin;
+use entity::records::Loop;
+use entity::records::Region;
+use entity::records::Shell;
+use entity::records::Vertex;
+use entity::slots::body_at;
+use entity::slots::carrier_at;
+use entity::slots::edge_at;
+use entity::slots::face_at;
+use entity::slots::fin_at;
+use entity::slots::loop_at;
+use entity::slots::region_at;
+use entity::slots::shell_at;
+use entity::slots::vertex_at;
+use model::readable::readable;
+use store::Carrier;
+ghost use mathlib.Core.Path.{_≡_};
+ghost use Prim.Native.Nat.{_<_};
+ghost use Rattle.lookup.specs.Lookup.{bodyAnswer, regionAnswer, shellAnswer, faceAnswer, loopAnswer, finAnswer, edgeAnswer, vertexAnswer, curveAnswer, surfaceAnswer, precisionAnswer, containsAnswer};
+ghost use Rattle.lookup.specs.Inner.{tableOf, idOf, refusalAt, carrierAnswer};
+
+// A record, or the refusal's number.
+pub enum BodyFound {
+    Is(Body),
+    Refused(u32),
+}
+
+pub enum RegionFound {
+    Is(Region),
+    Refused(u32),
+}
+
+pub enum ShellFound {
+    Is(Shell),
+    Refused(u32),
+}
+
+pub enum FaceFound {
+    Is(Face),
+    Refused(u32),
+}
+
+pub enum LoopFound {
+    Is(Loop),
+    Refused(u32),
+}
+
+pub enum FinFound {
+    Is(Fin),
+    Refused(u32),
+}
+
+pub enum EdgeFound {
+    Is(Edge),
+    Refused(u32),
+}
+
+pub enum VertexFound {
+    Is(Vertex),
+    Refused(u32),
+}
+
+pub enum CarrierFound {
+    Is(Carrier),
+    Refused(u32),
+}
+
+// The session precision, or the refusal's number.
+pub enum PrecisionFound {
+    Is(f64),
+    Refused(u32),
+}
+
+// Whether an entity exists, or the refusal's number.
+pub enum Contained {
+    Is(bool),
+    Refused(u32),
+}
+
+// An entity of any class.
+pub enum EntityRef {
+    Body(usize),
+    Region(usize),
+    Shell(usize),
+    Face(usize),
+    Loop(usize),
+    Fin(usize),
+    Edge(usize),
+    Vertex(usize),
+}
+
+// 9, then 2 where table k has no record of that id.
+fn refusal(room: &[usize; 10], words: &[u32], reals: &[f64], k: usize, id: usize) -> u32
+    requires { ⌜ k < 10 ⌝ }
+    ensures { λ r. ⌜ r ≡ refusalAt (now (room .entry)) (now (words .entry)) (now (reals .entry)) k id ⌝ }
+{
+    if !readable(room, words, reals) {
+        return 9;
+    }
+    if words[k] as usize <= id {
+        return 2;
+    }
+    0
+}
+
+pub fn body(room: &[usize; 10], words: &[u32], reals: &[f64], id: usize) -> BodyFound
+    ensures { λ r. ⌜ r ≡ bodyAnswer (now (room .entry)) (now (words .entry)) (now (reals .entry)) id ⌝ }
+{
+    let number = refusal(room, words, reals, 0, id);
+    if number != 0 {
+        return BodyFound::Refused(number);
+    }
+    BodyFound::Is(body_at(room, words, id))
+}
+
+pub fn region(room: &[usize; 10], words: &[u32], reals: &[f64], id: usize) -> RegionFound
+    ensures { λ r. ⌜ r ≡ regionAnswer (now (room .entry)) (now (words .entry)) (now (reals .entry)) id ⌝ }
+{
+    let number = refusal(room, words, reals, 1, id);
+    if number != 0 {
+        return RegionFound::Refused(number);
+    }
+    RegionFound::Is(region_at(room, words, id))
+}
+
+pub fn shell(room: &[usize; 10], words: &[u32], reals: &[f64], id: usize) -> ShellFound
+    ensures { λ r. ⌜ r ≡ shellAnswer (now (room .entry)) (now (words .entry)) (now (reals .entry)) id ⌝ }
+{
+    let number = refusal(room, words, reals, 2, id);
+    if number != 0 {
+        return ShellFound::Refused(number);
+    }
+    ShellFound::Is(shell_at(room, words, id))
+}
+
+pub fn face(room: &[usize; 10], words: &[u32], reals: &[f64], id: usize) -> FaceFound
+    ensures { λ r. ⌜ r ≡ faceAnswer (now (room .entry)) (now (words .entry)) (now (reals .entry)) id ⌝ }
+{
+    let number = refusal(room, words, reals, 3, id);
+    if number != 0 {
+        return FaceFound::Refused(number);
+    }
+    FaceFound::Is(face_at(room, words, id))
+}
+
+pub fn loop_(room: &[usize; 10], words: &[u32], reals: &[f64], id: usize) -> LoopFound
+    ensures { λ r. ⌜ r ≡ loopAnswer (now (room .entry)) (now (words .entry)) (now (reals .entry)) id ⌝ }
+{
+    let number = refusal(room, words, reals, 4, id);
+    if number != 0 {
+        return LoopFound::Refused(number);
+    }
+    LoopFound::Is(loop_at(room, words, id))
+}
+
+pub fn fin(room: &[usize; 10], words: &[u32], reals: &[f64], id: usize) -> FinFound
+    ensures { λ r. ⌜ r ≡ finAnswer (now (room .entry)) (now (words .entry)) (now (reals .entry)) id ⌝ }
+{
+    let number = refusal(room, words, reals, 5, id);
+    if number != 0 {
+        return FinFound::Refused(number);
+    }
+    FinFound::Is(fin_at(room, words, id))
+}
+
+pub fn edge(room: &[usize; 10], words: &[u32], reals: &[f64], id: usize) -> EdgeFound
+    ensures { λ r. ⌜ r ≡ edgeAnswer (now (room .entry)) (now (words .entry)) (now (reals .entry)) id ⌝ }
+{
+    let number = refusal(room, words, reals, 6, id);
+    if number != 0 {
+        return EdgeFound::Refused(number);
+    }
+    EdgeFound::Is(edge_at(room, words, reals, id))
+}
+
+pub fn vertex(room: &[usize; 10], words: &[u32], reals: &[f64], id: usize) -> VertexFound
+    ensures { λ r. ⌜ r ≡ vertexAnswer (now (room .entry)) (now (words .entry)) (now (reals .entry)) id ⌝ }
+{
+    let number = refusal(room, words, reals, 7, id);
+    if number != 0 {
+        return VertexFound::Refused(number);
+    }
+    VertexFound::Is(vertex_at(room, words, reals, id))
+}
+
+// A record of table k, the curves or the surfaces.
+fn carrier_found(
+    room: &[usize; 10],
+    words: &[u32],
+    reals: &[f64],
+    k: usize,
+    id: usize,
+) -> CarrierFound
+    requires { ⌜ (7 < k) × (k < 10) ⌝ }
+    ensures { λ r. ⌜ r ≡ carrierAnswer (now (room .entry)) (now (words .entry)) (now (reals .entry)) k id ⌝ }
+{
+    let number = refusal(room, words, reals, k, id);
+    if number != 0 {
+        return CarrierFound::Refused(number);
+    }
+    CarrierFound::Is(carrier_at(room, words, reals, k, id))
+}
+
+pub fn curve(room: &[usize; 10], words: &[u32], reals: &[f64], id: usize) -> CarrierFound
+    ensures { λ r. ⌜ r ≡ curveAnswer (now (room .entry)) (now (words .entry)) (now (reals .entry)) id ⌝ }
+{
+    carrier_found(room, words, reals, 8, id)
+}
+
+pub fn surface(room: &[usize; 10], words: &[u32], reals: &[f64], id: usize) -> CarrierFound
+    ensures { λ r. ⌜ r ≡ surfaceAnswer (now (room .entry)) (now (words .entry)) (now (reals .entry)) id ⌝ }
+{
+    carrier_found(room, words, reals, 9, id)
+}
+
+pub fn precision(room: &[usize; 10], words: &[u32], reals: &[f64]) -> PrecisionFound
+    ensures { λ r. ⌜ r ≡ precisionAnswer (now (room .entry)) (now (words .entry)) (now (reals .entry)) ⌝ }
+{
+    if !readable(room, words, reals) {
+        return PrecisionFound::Refused(9);
+    }
+    PrecisionFound::Is(reals[0])
+}
+
+fn table_of(entity: EntityRef) -> usize
+    ensures { λ r. ⌜ r ≡ tableOf entity ⌝ }
+{
+    match entity {
+        EntityRef::Body(_) => 0,
+        EntityRef::Region(_) => 1,
+        EntityRef::Shell(_) => 2,
+        EntityRef::Face(_) => 3,
+        EntityRef::Loop(_) => 4,
+        EntityRef::Fin(_) => 5,
+        EntityRef::Edge(_) => 6,
+        EntityRef::Vertex(_) => 7,
+    }
+}
+
+fn id_of(entity: EntityRef) -> usize
+    ensures { λ r. ⌜ r ≡ idOf entity ⌝ }
+{
+    match entity {
+        EntityRef::Body(id) => id,
+        EntityRef::Region(id) => id,
+        EntityRef::Shell(id) => id,
+        EntityRef::Face(id) => id,
+        EntityRef::Loop(id) => id,
+        EntityRef::Fin(id) => id,
+        EntityRef::Edge(id) => id,
+        EntityRef::Vertex(id) => id,
+    }
+}
+
+// Whether the entity exists.
+pub fn contains(room: &[usize; 10], words: &[u32], reals: &[f64], entity: EntityRef) -> Contained
+    ensures { λ r. ⌜ r ≡ containsAnswer (now (room .entry)) (now (words .entry)) (now (reals .entry)) entity ⌝ }
+{
+    if !readable(room, words, reals) {
+        return Contained::Refused(9);
+    }
+    let used = words[table_of(entity)] as usize;
+    Contained::Is(id_of(entity) < used)
+}
