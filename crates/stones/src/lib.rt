@@ -1,0 +1,337 @@
+// The trial stone (01, "Trial stone"), laid out by inserts and appended entries, as meaning/specs/Stone.antt has it.
+use edits::Inserted;
+use edits::make;
+use entity::records::BodyKind;
+use entity::records::Ref;
+use entity::records::sense_of;
+use geometry::curve::Line;
+use geometry::surface::Plane;
+use geometry::tolerance::Tolerance;
+use inserts::insert_body;
+use inserts::insert_curve;
+use inserts::insert_edge;
+use inserts::insert_face;
+use inserts::insert_fin;
+use inserts::insert_loop;
+use inserts::insert_region;
+use inserts::insert_shell;
+use inserts::insert_surface;
+use inserts::insert_vertex;
+use listed::append_entry;
+use store::Carrier;
+use vectors::vector::Point3;
+use vectors::vector::Vec3;
+
+// Its capacities leave room for one split.
+pub const ROOM: [usize; 10] = [1, 2, 2, 6, 6, 26, 13, 9, 12, 6];
+
+// Corner i has x = 4 where i has bit 0, y = 3 for bit 1, z = 2 for bit 2.
+const CORNERS: [Point3; 8] = [
+    Point3 {
+        x: 0.0,
+        y: 0.0,
+        z: 0.0,
+    },
+    Point3 {
+        x: 4.0,
+        y: 0.0,
+        z: 0.0,
+    },
+    Point3 {
+        x: 0.0,
+        y: 3.0,
+        z: 0.0,
+    },
+    Point3 {
+        x: 4.0,
+        y: 3.0,
+        z: 0.0,
+    },
+    Point3 {
+        x: 0.0,
+        y: 0.0,
+        z: 2.0,
+    },
+    Point3 {
+        x: 4.0,
+        y: 0.0,
+        z: 2.0,
+    },
+    Point3 {
+        x: 0.0,
+        y: 3.0,
+        z: 2.0,
+    },
+    Point3 {
+        x: 4.0,
+        y: 3.0,
+        z: 2.0,
+    },
+];
+
+// The start and the end of each edge; four edges run along each axis.
+const STARTS: [u32; 12] = [0, 2, 4, 6, 0, 1, 4, 5, 0, 1, 2, 3];
+
+const ENDS: [u32; 12] = [1, 3, 5, 7, 2, 3, 6, 7, 4, 5, 6, 7];
+
+const AXES: [Vec3; 3] = [
+    Vec3 {
+        x: 1.0,
+        y: 0.0,
+        z: 0.0,
+    },
+    Vec3 {
+        x: 0.0,
+        y: 1.0,
+        z: 0.0,
+    },
+    Vec3 {
+        x: 0.0,
+        y: 0.0,
+        z: 1.0,
+    },
+];
+
+// The edge of each fin, four fins to a face; the first two of a face are positive.
+const EDGES: [u32; 24] = [
+    4,
+    1,
+    5,
+    0,
+    2,
+    7,
+    3,
+    6,
+    0,
+    9,
+    2,
+    8,
+    10,
+    3,
+    11,
+    1,
+    8,
+    6,
+    10,
+    4,
+    5,
+    11,
+    7,
+    9,
+];
+
+// The two fins of each edge.
+const FINS: [u32; 24] = [
+    3,
+    8,
+    1,
+    15,
+    4,
+    10,
+    6,
+    13,
+    0,
+    19,
+    2,
+    20,
+    7,
+    17,
+    5,
+    22,
+    11,
+    16,
+    9,
+    23,
+    12,
+    18,
+    14,
+    21,
+];
+
+// A corner of each face, and its normal.
+const BASES: [usize; 6] = [0, 4, 0, 2, 0, 1];
+
+const NORMALS: [Vec3; 6] = [
+    Vec3 {
+        x: 0.0,
+        y: 0.0,
+        z: -1.0,
+    },
+    Vec3 {
+        x: 0.0,
+        y: 0.0,
+        z: 1.0,
+    },
+    Vec3 {
+        x: 0.0,
+        y: -1.0,
+        z: 0.0,
+    },
+    Vec3 {
+        x: 0.0,
+        y: 1.0,
+        z: 0.0,
+    },
+    Vec3 {
+        x: -1.0,
+        y: 0.0,
+        z: 0.0,
+    },
+    Vec3 {
+        x: 1.0,
+        y: 0.0,
+        z: 0.0,
+    },
+];
+
+fn stands(answer: Inserted) -> bool {
+    match answer {
+        Inserted::At(_) => true,
+        Inserted::Refused(_) => false,
+    }
+}
+
+// The body, its void and its solid region, each with its shell.
+fn put_body(room: &[usize; 10], words: &mut [u32; 8377], reals: &mut [f64; 158]) -> bool {
+    let mut ok = stands(insert_body(room, &mut words[..], &mut reals[..], BodyKind::Solid));
+    let mut i = 0u32;
+    while i < 2 {
+        ok = ok & stands(insert_region(room, &mut words[..], &mut reals[..], 0, i == 1));
+        ok = ok & stands(insert_shell(room, &mut words[..], &mut reals[..], i));
+        ok = ok & (append_entry(room, &mut words[..], &reals[..], 0, 0, i) == 0);
+        ok = ok & (append_entry(room, &mut words[..], &reals[..], 1, i as usize, i) == 0);
+        i += 1;
+    }
+    ok
+}
+
+fn put_vertices(room: &[usize; 10], words: &mut [u32; 8377], reals: &mut [f64; 158]) -> bool {
+    let mut ok = true;
+    let mut i = 0;
+    while i < 8 {
+        ok = ok
+            & stands(insert_vertex(
+                room,
+                &mut words[..],
+                &mut reals[..],
+                CORNERS[i],
+                Tolerance::Session,
+            ));
+        i += 1;
+    }
+    ok
+}
+
+fn put_edge(
+    room: &[usize; 10],
+    words: &mut [u32; 8377],
+    reals: &mut [f64; 158],
+    i: usize,
+    curve: u32,
+) -> bool {
+    if 12 <= i {
+        return false;
+    }
+    let start = STARTS[i];
+    let line = Line {
+        origin: CORNERS[(start % 8) as usize],
+        direction: AXES[i / 4],
+    };
+    let lies = stands(insert_curve(room, &mut words[..], &mut reals[..], Carrier::Line(line)));
+    let put = stands(insert_edge(
+        room,
+        &mut words[..],
+        &mut reals[..],
+        Ref::Is(start),
+        Ref::Is(ENDS[i]),
+        Ref::Is(curve),
+        Tolerance::Session,
+    ));
+    let a = append_entry(room, &mut words[..], &reals[..], 7, i, FINS[2 * i]);
+    let b = append_entry(room, &mut words[..], &reals[..], 7, i, FINS[2 * i + 1]);
+    lies & put & (a == 0) & (b == 0)
+}
+
+fn put_edges(room: &[usize; 10], words: &mut [u32; 8377], reals: &mut [f64; 158]) -> bool {
+    let mut ok = true;
+    let mut i = 0u32;
+    while i < 12 {
+        ok = ok & put_edge(room, words, reals, i as usize, i);
+        i += 1;
+    }
+    ok
+}
+
+// A face, of the void's shell in front and the material's behind, and its loop.
+fn put_face(
+    room: &[usize; 10],
+    words: &mut [u32; 8377],
+    reals: &mut [f64; 158],
+    i: usize,
+    id: u32,
+) -> bool {
+    if 6 <= i {
+        return false;
+    }
+    let plane = Plane {
+        origin: CORNERS[BASES[i] % 8],
+        normal: NORMALS[i],
+    };
+    let lies = stands(insert_surface(room, &mut words[..], &mut reals[..], Carrier::Plane(plane)));
+    let face = stands(insert_face(
+        room,
+        &mut words[..],
+        &mut reals[..],
+        Ref::Is(0),
+        Ref::Is(1),
+        Ref::Is(id),
+        sense_of(0),
+    ));
+    let rim = stands(insert_loop(room, &mut words[..], &mut reals[..], id));
+    let a = append_entry(room, &mut words[..], &reals[..], 2, 0, id);
+    let b = append_entry(room, &mut words[..], &reals[..], 2, 1, id);
+    let c = append_entry(room, &mut words[..], &reals[..], 5, i, id);
+    lies & face & rim & (a == 0) & (b == 0) & (c == 0)
+}
+
+fn put_faces(room: &[usize; 10], words: &mut [u32; 8377], reals: &mut [f64; 158]) -> bool {
+    let mut ok = true;
+    let mut i = 0u32;
+    while i < 6 {
+        ok = ok & put_face(room, words, reals, i as usize, i);
+        i += 1;
+    }
+    ok
+}
+
+fn put_fins(room: &[usize; 10], words: &mut [u32; 8377], reals: &mut [f64; 158]) -> bool {
+    let mut ok = true;
+    let mut i = 0u32;
+    while i < 24 {
+        let edge = EDGES[i as usize];
+        ok = ok
+            & stands(insert_fin(
+                room,
+                &mut words[..],
+                &mut reals[..],
+                i / 4,
+                edge,
+                sense_of(i % 4 / 2),
+                false,
+            ));
+        ok = ok & (append_entry(room, &mut words[..], &reals[..], 6, (i / 4) as usize, i) == 0);
+        i += 1;
+    }
+    ok
+}
+
+// Whether the whole stone stands in the lent memory.
+pub fn trial_stone(room: &[usize; 10], words: &mut [u32; 8377], reals: &mut [f64; 158]) -> bool {
+    let made = make(room, &mut words[..], &mut reals[..], 0.001) == 0;
+    let body = put_body(room, words, reals);
+    let vertices = put_vertices(room, words, reals);
+    let edges = put_edges(room, words, reals);
+    let faces = put_faces(room, words, reals);
+    let fins = put_fins(room, words, reals);
+    made & body & vertices & edges & faces & fins
+}
