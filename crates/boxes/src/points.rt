@@ -1,0 +1,86 @@
+// The box of the vertices that a path lists.
+use crate::BoxFound;
+use entity::slots::vertex_at;
+use figures::bbox::Extent;
+use marks::clear;
+use vectors::vector::Point3;
+use visits::all_listed;
+use visits::visit;
+ghost use mathlib.Core.Path.{_≡_};
+ghost use mathlib.Core.Bool.{true};
+ghost use mathlib.Core.List.{map};
+ghost use Prim.Native.Nat.{_≤_, _<_};
+ghost use lib.Dec.{ltb};
+ghost use lib.ListN.{length, replicate};
+ghost use Rattle.meaning.specs.Lists.{all, firsts};
+ghost use Rattle.meaning.specs.Model.{pointOf};
+ghost use Rattle.model.specs.Layout.{word};
+ghost use Rattle.model.specs.Decode.{decode};
+ghost use Rattle.model.specs.Fit.{Fit};
+ghost use Rattle.parts.specs.Parts.{Sources};
+ghost use Rattle.visits.specs.Visits.{idsOf};
+ghost use Rattle.figures.specs.Figures.{extentOf};
+ghost use Rattle.boxes.specs.Walked.{extentBox, walkBox};
+
+// The point of a vertex.
+fn point_at(room: &[usize; 10], words: &[u32], reals: &[f64], i: usize) -> Point3
+    requires { ⌜ Fit (now room) (now words) (now reals) ⌝ }
+    requires { ⌜ i < word (now words) 7 ⌝ }
+    ensures { λ r. ⌜ r ≡ pointOf (decode (now (room .entry)) (now (words .entry)) (now (reals .entry))) i ⌝ }
+{
+    vertex_at(room, words, reals, i).point
+}
+
+// What is known of the vertices' points, met in order.
+fn extent(room: &[usize; 10], words: &[u32], reals: &[f64], ids: &[u32]) -> Extent
+    requires { ⌜ Fit (now room) (now words) (now reals) ⌝ }
+    requires { ⌜ all (λ v. ltb v (word (now words) 7)) (now ids) ≡ true ⌝ }
+    ensures { λ r. ⌜ r ≡ extentOf (map (pointOf (decode (now (room .entry)) (now (words .entry)) (now (reals .entry)))) (now (ids .entry))) ⌝ }
+{
+    let mut e = Extent::none();
+    let mut k = 0;
+    while k < ids.len() {
+        let point = point_at(room, words, reals, ids[k] as usize);
+        e = e.with(point);
+        k += 1;
+    }
+    e
+}
+
+// No vertex 4, a coordinate that is not finite 4.
+fn extent_box(e: Extent) -> BoxFound
+    ensures { λ r. ⌜ r ≡ extentBox e ⌝ }
+{
+    if e.empty {
+        return BoxFound::Refused(4);
+    }
+    if !e.finite {
+        return BoxFound::Refused(4);
+    }
+    let bounds = e.bounds;
+    BoxFound::Is(bounds)
+}
+
+// The box of what the path lists, each vertex at its first meeting; a missing vertex 2. The marks come all zero and are left so.
+pub fn path_box(
+    room: &[usize; 10],
+    words: &[u32],
+    reals: &[f64],
+    path: &[u32],
+    marks: &mut [u8],
+) -> BoxFound
+    requires { ⌜ Fit (now room) (now words) (now reals) ⌝ }
+    requires { ⌜ Sources (now room) (now words) (now path) ⌝ }
+    requires { ⌜ length (now path) ≤ 8448 ⌝ }
+    requires { ⌜ now marks ≡ replicate (length (now marks)) 0 ⌝ }
+    ensures { λ r. ⌜ r ≡ walkBox (decode (now (room .entry)) (now (words .entry)) (now (reals .entry))) (firsts (idsOf (now (room .entry)) (now (words .entry)) (now (path .entry)))) ⌝ }
+    ensures { λ _. ⌜ now (marks .exit) ≡ replicate (length (now (marks .entry))) 0 ⌝ }
+{
+    if !all_listed(room, words, path, words[7]) {
+        return BoxFound::Refused(2);
+    }
+    let mut list = [0u32; 2048];
+    let n = visit(room, words, path, marks, &mut list);
+    clear(marks);
+    extent_box(extent(room, words, reals, &list[..n]))
+}
