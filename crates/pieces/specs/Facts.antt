@@ -1,0 +1,19 @@
+-- What the inner functions ask. No reader of a public promise needs this file. Definitions only.
+use Prim.Native.Nat.{ℕ, _+_, _≤_, _<_}
+use mathlib.Core.List.{List}
+use lib.ListN.{length}
+use Rattle.model.specs.Layout.{word, wordsNeeded}
+use Rattle.model.specs.Fit.{Small}
+
+-- the lent words hold the tables, with room for n fins, an edge and a vertex more
+pub record Slots (room w : List ℕ) (n : ℕ) : Type 0 where
+  pub small : Small room
+  pub enough : wordsNeeded room ≤ length w
+  pub counts : 10 ≤ length w
+  pub few : n ≤ 8
+  pub fins : word w 5 + n ≤ word room 5
+  pub edges : word w 6 < word room 6
+  pub vertices : word w 7 < word room 7
+  pub most-fins : word room 5 ≤ 4096
+  pub most-edges : word room 6 ≤ 2048
+  pub most-vertices : word room 7 ≤ 2048
