@@ -6,7 +6,7 @@ use native.Mathlib.Omega.{arith}
 use mathlib.Core.Path.{_≡_, refl, sym, ap, _∙_}
 use mathlib.Core.List.{List, [], _∷_, _++_, map}
 use lib.ListN.{length, getD, take, drop, set, length-map, drop-of-length-le}
-use lib.Seq.{append-snoc, take-suc, length-take-le, take-all}
+use lib.Seq.{take-suc, length-take-le, take-all}
 use Rattle.meaning.specs.Lists.{run}
 use Rattle.lists.specs.Lists.{length-run}
 use Rattle.model.specs.Layout.{word, wordsNeeded, wordsOf}
@@ -17,7 +17,7 @@ use Rattle.frame.specs.Over.{length-over, over-none}
 use Rattle.beside.specs.Laws.{one-store, over-behind}
 use Rattle.halves.specs.Pass.{putAll}
 use Rattle.halves.specs.Laws.{all-long}
-use Rattle.pieces.specs.Pieces.{finWord, finWords, newFin, secondFields, secondRoom}
+use Rattle.pieces.specs.Pieces.{newFin, secondFields, secondRoom}
 use Rattle.pieces.specs.Facts.{Slots}
 
 -- a list written whole

@@ -1,3 +1,4 @@
 pub mod Pieces
 pub mod Facts
 pub mod Laws
+pub mod Steps

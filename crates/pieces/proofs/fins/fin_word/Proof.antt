@@ -8,19 +8,13 @@ use native.Mathlib.Omega.{arith}
 use borrow.Author.Needs.{needs}
 use Rattle.pieces.proofs.fins.fin_word.Statement.{statement}
 use Rattle.pieces.proofs.fins.fin_word.Tie as tie
-use Rattle.pieces.proofs.fins.fin_word.Reads as reads
-use Rattle.pieces.proofs.fins.fin_word.Lts as lts
-use Rattle.model.proofs.layout.words_of.Reads as words-of-reads
 
--- src/fins.rt:19:9
 words-of-requires : tie.Need-words-of-requires
 words-of-requires c κs = let s = c .before in (s .pre .0 .small, listed-inside (s .args .room .now) (s .args .words .now) 5 (s .args .fin) (s .pre .0) (omega arith) (s .pre .1 .0))
 
--- src/fins.rt:20:5
 mul-result : tie.Need-mul-result
 mul-result c = search needs
 
--- src/fins.rt:20:5
 shared-slice-read-result : tie.Need-shared-slice-read-result
 shared-slice-read-result c =
     let s = c .before .before .before in
@@ -28,7 +22,6 @@ shared-slice-read-result c =
     let p = s .pre .1 .1 in
     omega arith
 
--- src/fins.rt:14:1
 returns : tie.Need-returns
 unfolding finWord
 returns c = let s = c .before .before .before in ap (λ l. word l (s .args .p)) (c .before .words-of .ensures)

@@ -8,9 +8,6 @@ use native.Mathlib.Omega.{arith}
 use Prim.Native.Nat.{_≤_, _-_}
 use Rattle.pieces.proofs.fins.fin_words.Statement.{statement}
 use Rattle.pieces.proofs.fins.fin_words.Tie as tie
-use Rattle.pieces.proofs.fins.fin_words.Reads as reads
-use Rattle.pieces.proofs.fins.fin_words.Lts as lts
-use Rattle.pieces.proofs.fins.fin_word.Reads as fin-word-reads
 
 abbrev Inv-loop : tie.InvT-loop
 Inv-loop room words fins p out₀ k₀ out k = (k ≤ length fins) × (length out ≡ length fins) × (out ≡ over 0 (map (finWord room words p) (take k fins)) out₀)
@@ -18,43 +15,33 @@ Inv-loop room words fins p out₀ k₀ out k = (k ≤ length fins) × (length ou
 abbrev μ-loop : tie.MeasureT-loop
 μ-loop room words fins p out₀ k₀ out k = length fins - k
 
--- src/fins.rt:31:5
 loop-holds : tie.Need-loop-holds Inv-loop μ-loop
 loop-holds c = let s = c .before .before .before in (omega arith, s .pre .1 .1 .1, mapped-none (finWord (s .args .room .now) (s .args .words .now) (s .args .p)) (s .args .fins .now) (s .args .out .now) (s .pre .1 .1 .1))
 
--- src/fins.rt:32:40
 mul-fin-word : tie.Need-mul-fin-word Inv-loop μ-loop
 mul-fin-word c = omega arith
 
--- src/fins.rt:32:40
 shared-slice-read-fin-word : tie.Need-shared-slice-read-fin-word Inv-loop μ-loop
 shared-slice-read-fin-word c = omega arith
 
--- src/fins.rt:32:40
 cast-fin-word : tie.Need-cast-fin-word Inv-loop μ-loop
 cast-fin-word c = omega (arith, c .shared-slice-known3 .given (c .before .before .loop .k))
 
--- src/fins.rt:32:18
 fin-word-requires : tie.Need-fin-word-requires Inv-loop μ-loop
 fin-word-requires c κs = let s = c .before .before .before .before .before .before in (s .pre .0, (s .pre .1 .0 .there (c .before .before .loop .k) (omega arith), s .pre .1 .1 .0))
 
--- src/fins.rt:32:9
 mul-out : tie.Need-mul-out Inv-loop μ-loop
 mul-out c = omega arith
 
--- src/fins.rt:32:9
 slice-write-out : tie.Need-slice-write-out Inv-loop μ-loop
 slice-write-out c = omega arith
 
--- src/fins.rt:33:9
 add-k : tie.Need-add-k Inv-loop μ-loop
 add-k c = omega arith
 
--- src/fins.rt:31:5
 loop-less : tie.Need-loop-less Inv-loop μ-loop
 loop-less c = omega arith
 
--- src/fins.rt:31:5
 loop-again : tie.Need-loop-again Inv-loop μ-loop
 loop-again c =
     let s = c .before .before .before .before .before .before .before in
@@ -67,11 +54,9 @@ loop-again c =
           ∙ mapped-turn f (s .args .fins .now) (s .args .out .now) (s .pre .1 .1 .1) k (omega arith),
     )
 
--- src/fins.rt:24:1
 same-length : tie.Need-same-length Inv-loop μ-loop
 same-length c = let s = c .before .before .before .before .before in let g = s .pre .1 .1 .1 in let l = c .before .loop .inv .1 in omega arith
 
--- src/fins.rt:24:1
 returns : tie.Need-returns Inv-loop μ-loop
 unfolding finWords
 returns c =

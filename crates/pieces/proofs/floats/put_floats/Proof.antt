@@ -6,23 +6,16 @@ use native.Mathlib.Omega.{arith}
 use borrow.Author.Needs.{needs}
 use Rattle.pieces.proofs.floats.put_floats.Statement.{statement}
 use Rattle.pieces.proofs.floats.put_floats.Tie as tie
-use Rattle.pieces.proofs.floats.put_floats.Reads as reads
-use Rattle.pieces.proofs.floats.put_floats.Lts as lts
-use Rattle.edits.proofs.put.put_reals.Reads as put-reals-reads
 
--- src/floats.rt:25:37
 slice-aggregate-put-reals : tie.Need-slice-aggregate-put-reals
 slice-aggregate-put-reals c = search needs
 
--- src/floats.rt:25:5
 put-reals-requires : tie.Need-put-reals-requires
 put-reals-requires c κs = search needs
 
--- src/floats.rt:27:39
 slice-aggregate-put-reals-2 : tie.Need-slice-aggregate-put-reals-2
 slice-aggregate-put-reals-2 c = search needs
 
--- src/floats.rt:27:5
 put-reals-requires-2 : tie.Need-put-reals-requires-2
 put-reals-requires-2 c κs =
     let s = c .before .before .before .before .before .before .before .before in
@@ -30,11 +23,9 @@ put-reals-requires-2 c κs =
     let g = s .pre .1 .0 in
     (s .pre .0, (record { enough = omega arith; table = omega arith; slot = s .pre .1 .2 }, refl))
 
--- src/floats.rt:12:1
 same-length : tie.Need-same-length
 same-length c = search needs
 
--- src/floats.rt:12:1
 returns : tie.Need-returns
 unfolding floatsPut
 returns c =

@@ -3,31 +3,22 @@ use native.Mathlib.Omega.{arith}
 use borrow.Author.Needs.{needs}
 use Rattle.pieces.proofs.relist.put_loops.Statement.{statement}
 use Rattle.pieces.proofs.relist.put_loops.Tie as tie
-use Rattle.pieces.proofs.relist.put_loops.Reads as reads
-use Rattle.pieces.proofs.relist.put_loops.Lts as lts
-use Rattle.halves.proofs.passes.double_lists.Reads as double-lists-reads
 
--- src/relist.rt:27:13
 slice-read-n : tie.Need-slice-read-n
 slice-read-n c = search needs
 
--- src/relist.rt:27:13
 cast-n : tie.Need-cast-n
 cast-n c = omega (arith, c .slice-known2 .given 4)
 
--- src/relist.rt:28:17
 slice-read-first : tie.Need-slice-read-first
 slice-read-first c = search needs
 
--- src/relist.rt:29:5
 double-lists-requires : tie.Need-double-lists-requires
 double-lists-requires c κs = search needs
 
--- src/relist.rt:15:1
 same-length : tie.Need-same-length
 same-length c = search needs
 
--- src/relist.rt:15:1
 returns : tie.Need-returns
 unfolding loopsPut
 returns c = c .before .before .double-lists .ensures

@@ -4,49 +4,36 @@ use native.Mathlib.Omega.{arith}
 use borrow.Author.Needs.{needs}
 use Rattle.pieces.proofs.relist.put_wires.Statement.{statement}
 use Rattle.pieces.proofs.relist.put_wires.Tie as tie
-use Rattle.pieces.proofs.relist.put_wires.Reads as reads
-use Rattle.pieces.proofs.relist.put_wires.Lts as lts
-use Rattle.halves.proofs.passes.double_lists.Reads as double-lists-reads
 
--- src/relist.rt:50:13
 slice-read-n : tie.Need-slice-read-n
 slice-read-n c = search needs
 
--- src/relist.rt:50:13
 cast-n : tie.Need-cast-n
 cast-n c = omega (arith, c .slice-known2 .given 2)
 
--- src/relist.rt:51:17
 slice-read-first : tie.Need-slice-read-first
 slice-read-first c = search needs
 
--- src/relist.rt:52:16
 cast-t9 : tie.Need-cast-t9
 cast-t9 c = search needs
 
--- src/relist.rt:60:9
 slice-aggregate-double-lists : tie.Need-slice-aggregate-double-lists
 slice-aggregate-double-lists c = search needs
 
--- src/relist.rt:61:9
 slice-aggregate-double-lists-2 : tie.Need-slice-aggregate-double-lists-2
 slice-aggregate-double-lists-2 c = search needs
 
--- src/relist.rt:62:9
 slice-aggregate-double-lists-3 : tie.Need-slice-aggregate-double-lists-3
 slice-aggregate-double-lists-3 c = search needs
 
--- src/relist.rt:54:5
 double-lists-requires : tie.Need-double-lists-requires
 double-lists-requires c κs =
     let s = c .before .before .before .before .before .before .before in
     (s .pre .0 .small, (record { own = refl; sense = refl; few = omega arith; ids = omega (arith, s .pre .0 .edges, s .pre .0 .most-edges) }, s .pre .1 .1))
 
--- src/relist.rt:44:1
 same-length : tie.Need-same-length
 same-length c = search needs
 
--- src/relist.rt:44:1
 returns : tie.Need-returns
 unfolding wiresPut
 returns c = c .before .before .double-lists .ensures

@@ -1,0 +1,5 @@
+pub mod After
+pub mod Facts
+pub mod Named
+pub mod Rooms
+pub mod Chain

@@ -1,0 +1,49 @@
+// `split_line_edge` of euler.rs: the thirteen tests, then the writing, which cannot fail. `specs/After.antt` says what it answers
+// and leaves.
+pub mod point;
+pub mod writing;
+
+use crate::point::write_floats;
+use crate::writing::write_words;
+use cuts::split_refusal;
+ghost use mathlib.Core.Path.{_≡_};
+ghost use Rattle.splits.specs.After.{splitAnswer, splitWords, splitReals};
+
+// The edge, kept as the first half, the second half, and the vertex between them.
+pub struct EdgeSplit {
+    pub original_edge: u32,
+    pub new_edge: u32,
+    pub vertex: u32,
+}
+
+// What a split made, or the refusal's number.
+pub enum Split {
+    Is(EdgeSplit),
+    Refused(u32),
+}
+
+// Splits a straight edge at a fraction of its range.
+pub fn split_line_edge(
+    room: &[usize; 10],
+    words: &mut [u32],
+    reals: &mut [f64],
+    edge: usize,
+    fraction: f64,
+) -> Split
+    ensures answer { λ r. ⌜ r ≡ splitAnswer (now (room .entry)) (now (words .entry)) (now (reals .entry)) edge fraction ⌝ }
+    ensures tables { λ _. ⌜ now (words .exit) ≡ splitWords (now (room .entry)) (now (words .entry)) (now (reals .entry)) edge fraction ⌝ }
+    ensures floats { λ _. ⌜ now (reals .exit) ≡ splitReals (now (room .entry)) (now (words .entry)) (now (reals .entry)) edge fraction ⌝ }
+{
+    let n = split_refusal(room, &words[..], &reals[..], edge, fraction);
+    if n != 0 {
+        return Split::Refused(n);
+    }
+    let split = EdgeSplit {
+        original_edge: edge as u32,
+        new_edge: words[6],
+        vertex: words[7],
+    };
+    write_floats(room, &words[..], reals, edge, fraction);
+    write_words(room, words, edge);
+    Split::Is(split)
+}

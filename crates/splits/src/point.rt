@@ -1,0 +1,60 @@
+// The new vertex's point, and the floats of the new records.
+use bounds::ends::segment_at;
+use cuts::points::cut_of;
+use model::layout::reals_of;
+use pieces::floats::put_floats;
+use vectors::vector::Point3;
+ghost use mathlib.Core.Path.{_≡_};
+ghost use Prim.Native.Nat.{_<_};
+ghost use Rattle.meaning.specs.Split.{splitPoint};
+ghost use Rattle.model.specs.Layout.{word, real, realsOf};
+ghost use Rattle.model.specs.Decode.{decode};
+ghost use Rattle.model.specs.Fit.{Fit};
+ghost use Rattle.bounds.specs.Ends.{endsRefusal};
+ghost use Rattle.splits.specs.After.{realsSplit};
+ghost use Rattle.splits.specs.Facts.{Open};
+
+// The point on the edge's line at the parameter lo + (hi - lo)·fraction.
+fn split_point(
+    room: &[usize; 10],
+    words: &[u32],
+    reals: &[f64],
+    edge: usize,
+    fraction: f64,
+) -> Point3
+    requires { ⌜ Fit (now room) (now words) (now reals) ⌝ }
+    requires { ⌜ endsRefusal (decode (now room) (now words) (now reals)) edge ≡ 0 ⌝ }
+    ensures { λ r. ⌜ r ≡ splitPoint (decode (now (room .entry)) (now (words .entry)) (now (reals .entry))) edge fraction ⌝ }
+{
+    let segment = segment_at(room, words, reals, edge);
+    let cut = cut_of(segment, fraction, 0.0);
+    cut.at
+}
+
+// The edge's own tolerance, whatever its tag says.
+fn own_float(room: &[usize; 10], words: &[u32], reals: &[f64], edge: usize) -> f64
+    requires { ⌜ Fit (now room) (now words) (now reals) ⌝ }
+    requires { ⌜ edge < word (now words) 6 ⌝ }
+    ensures { λ r. ⌜ r ≡ real (realsOf (now (room .entry)) (now (reals .entry)) 6 edge) 0 ⌝ }
+{
+    let x = reals_of(room, reals, 6, edge);
+    x[0]
+}
+
+// The floats of the new edge and vertex.
+pub fn write_floats(
+    room: &[usize; 10],
+    words: &[u32],
+    reals: &mut [f64],
+    edge: usize,
+    fraction: f64,
+)
+    requires { ⌜ Open (now room) (now words) (now reals) edge ⌝ }
+    ensures { λ _. ⌜ now (reals .exit) ≡ realsSplit (now (room .entry)) (now (words .entry)) (now (reals .entry)) edge fraction ⌝ }
+{
+    let p = split_point(room, words, &reals[..], edge, fraction);
+    let t = own_float(room, words, &reals[..], edge);
+    let new_edge = words[6] as usize;
+    let vertex = words[7] as usize;
+    put_floats(room, reals, new_edge, vertex, p, t);
+}
