@@ -21,14 +21,13 @@ use Rattle.lists.specs.Lists.{all-firsts}
 use Rattle.model.specs.Layout.{word}
 use Rattle.model.specs.Decode.{decode}
 use Rattle.model.specs.Readable.{readable}
-use Rattle.marks.specs.Laws.{take-more}
 use Rattle.figures.specs.declared.bbox.Extent.{Extent}
 use Rattle.figures.specs.Figures.{seenBox, allFinite, extentOf}
 use Rattle.figures.specs.Laws.{finite-map}
 use Rattle.walks.specs.Calls.{reach}
 use Rattle.walks.specs.Decoded.{refusedBy}
 use Rattle.walks.specs.Laws.{all-firsts-same, accepted, refused-before}
-use Rattle.polyhedral.specs.Laws.{polyhedral-vertices}
+use Rattle.polyhedral.specs.Laws.{map-turn, polyhedral-vertices}
 use Rattle.boxes.specs.declared.BoxFound.{BoxFound}
 use Rattle.boxes.specs.declared.BoxFound.the-variants.{Is, Refused}
 use Rattle.boxes.specs.Answers.{boxNumber, boxAnswer}
@@ -36,17 +35,13 @@ use Rattle.boxes.specs.Walked.{extentBox, walkNumber, walkBox}
 
 -- ---- the points
 
-map-snoc : (f : ℕ → Point3) (l : List ℕ) (y : ℕ) → map f (l ++ (y ∷ [])) ≡ map f l ++ (f y ∷ [])
-map-snoc f [] y = refl
-map-snoc f (z ∷ l) y = ap (λ t. f z ∷ t) (map-snoc f l y)
-
 -- a turn of a loop over vertices
 pub extent-turn : (f : ℕ → Point3) (l : List ℕ) (k : ℕ) (e next : Extent) (p : Point3) → k < length l → p ≡ f (getD l k 0) → e ≡ extentOf (map f (take k l))
     → ((s : List Point3) → e ≡ extentOf s → next ≡ extentOf (s ++ (p ∷ []))) → next ≡ extentOf (map f (take (k + 1) l))
 extent-turn f l k e next p h q s more =
     more (map f (take k l)) s
     ∙ ap (λ t. extentOf (map f (take k l) ++ (t ∷ []))) q
-    ∙ ap extentOf (sym (ap (map f) (take-more l k 0 h) ∙ map-snoc f (take k l) (getD l k 0)))
+    ∙ ap extentOf (sym (map-turn f l k h))
 
 pub box-empty : (e : Extent) → e .empty ≡ true → Refused 4 ≡ extentBox e
 unfolding extentBox
