@@ -4,4 +4,5 @@ pub mod Readable
 pub mod Entries
 pub mod Fit
 pub mod Laws
+pub mod Rows
 pub mod Stone

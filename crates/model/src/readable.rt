@@ -1,11 +1,13 @@
 // The test of refusal 9. A record is tested by its own words and floats.
+use crate::layout::real_at;
+use crate::layout::real_stride;
 use crate::layout::reals_needed;
-use crate::layout::reals_of;
+use crate::layout::word_at;
+use crate::layout::word_stride;
 use crate::layout::words_needed;
-use crate::layout::words_of;
 use vectors::vector::is_finite;
 ghost use mathlib.Core.Path.{_≡_};
-ghost use Prim.Native.Nat.{_<_, _≤_};
+ghost use Prim.Native.Nat.{_+_, _*_, _<_, _≤_};
 ghost use mathlib.Core.List.{[]};
 ghost use lib.ListN.{length};
 ghost use Rattle.meaning.specs.Edits.{toleranceOk, precisionOk};
@@ -13,6 +15,7 @@ ghost use Rattle.geometry.specs.declared.tolerance.Tolerance.the-variants.{Own}
 ghost use Rattle.model.specs.Layout.{wordStrides, word};
 ghost use Rattle.model.specs.Readable.{bodyOk, regionOk, shellOk, faceOk, loopOk, finOk, ownOk, edgeOk, vertexOk, carrierOk, recordOk, roomOk, countsOk, tableOk, tablesOk, lentOk, sizedOk, readable};
 ghost use Rattle.model.specs.Fit.{Whole, Sized};
+ghost use Rattle.model.specs.Rows.{row, Rows, rowsOk};
 
 // 01's largest tables.
 const LARGEST: [usize; 10] = [64, 128, 128, 512, 512, 4096, 2048, 2048, 2048, 512];
@@ -129,20 +132,51 @@ fn record_ok(k: usize, w: &[u32], x: &[f64]) -> bool
     }
 }
 
-// Every used record of table k.
+// The i-th part of n words, and of n floats.
+fn words_row(w: &[u32], n: usize, i: usize) -> &[u32]
+    requires { ⌜ n * i + n ≤ length (now w) ⌝ }
+    ensures { λ r. ⌜ now r ≡ row (now (w .entry)) n i ⌝ }
+{
+    let at = n * i;
+    let end = at + n;
+    &w[at..end]
+}
+
+fn reals_row(x: &[f64], n: usize, i: usize) -> &[f64]
+    requires { ⌜ n * i + n ≤ length (now x) ⌝ }
+    ensures { λ r. ⌜ now r ≡ row (now (x .entry)) n i ⌝ }
+{
+    let at = n * i;
+    let end = at + n;
+    &x[at..end]
+}
+
+// The n records of table k whose words and floats these are.
+fn rows_ok(k: usize, n: usize, w: &[u32], x: &[f64]) -> bool
+    requires { ⌜ Rows k n (now w) (now x) ⌝ }
+    ensures { λ r. ⌜ r ≡ rowsOk k n (now (w .entry)) (now (x .entry)) ⌝ }
+{
+    let words = word_stride(k);
+    let reals = real_stride(k);
+    let mut ok = true;
+    let mut i = 0;
+    while i < n {
+        ok = ok & record_ok(k, words_row(w, words, i), reals_row(x, reals, i));
+        i += 1;
+    }
+    ok
+}
+
+// Every used record of table k. Where the table begins is worked out once, not for each record.
 fn table_ok(room: &[usize; 10], words: &[u32], reals: &[f64], k: usize) -> bool
     requires { ⌜ Sized (now room) (now words) (now reals) ⌝ }
     requires { ⌜ k < 10 ⌝ }
     ensures { λ r. ⌜ r ≡ tableOk (now (room .entry)) (now (words .entry)) (now (reals .entry)) k ⌝ }
 {
     let n = words[k] as usize;
-    let mut ok = true;
-    let mut i = 0;
-    while i < n {
-        ok = ok & record_ok(k, words_of(room, words, k, i), reals_of(room, reals, k, i));
-        i += 1;
-    }
-    ok
+    let at = word_at(room, k, 0);
+    let from = real_at(room, k, 0);
+    rows_ok(k, n, &words[at..], &reals[from..])
 }
 
 fn tables_ok(room: &[usize; 10], words: &[u32], reals: &[f64]) -> bool
