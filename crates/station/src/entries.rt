@@ -2,12 +2,10 @@
 use listed::append_entry;
 use listed::put_entry;
 use listed::strike_entry;
-use model::entries::Entry;
-use model::entries::list_entry;
 ghost use mathlib.Core.Path.{_≡_};
 ghost use Rattle.model.specs.Entries.{entryAnswer, entryRefusal};
 ghost use Rattle.listed.specs.Answers.{putEntryWords, appendNumber, appendEntryWords, strikeEntryWords};
-ghost use Rattle.station.specs.Crossing.{entryNumber, entrySlots};
+ghost use Rattle.crossings.specs.Crossing.{entryNumber, entrySlots};
 
 // The entry at a place of list j of record i.
 #[no_mangle]
@@ -23,13 +21,7 @@ pub extern "C" fn brunskerl_list_entry(
     ensures answer { λ r. ⌜ r ≡ entryNumber (entryAnswer (now (room .entry)) (now (words .entry)) (now (reals .entry)) j i place) ⌝ }
     ensures slots { λ _. ⌜ now (value .exit) ≡ entrySlots (entryAnswer (now (room .entry)) (now (words .entry)) (now (reals .entry)) j i place) (now (value .entry)) ⌝ }
 {
-    match list_entry(room, words, reals, j, i, place) {
-        Entry::Is(id) => {
-            *value = [id];
-            0
-        }
-        Entry::Refused(n) => n,
-    }
+    queries::list_entry(room, words, reals, j, i, place, value)
 }
 
 // Another id at a place of list j of record i.

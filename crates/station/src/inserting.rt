@@ -1,33 +1,10 @@
 // Inserts: the new record's id in a lent slot.
-use crate::tags::four_tags;
-use crate::tags::point_of;
-use crate::tags::ref_of;
-use crate::tags::unknown_tag;
-use edits::Inserted;
-use entity::records::carrier_of;
-use entity::records::kind_of;
-use entity::records::sense_of;
-use entity::records::tolerance_of;
-use inserts::insert_body;
-use inserts::insert_curve;
-use inserts::insert_edge;
-use inserts::insert_face;
-use inserts::insert_fin;
-use inserts::insert_loop;
-use inserts::insert_region;
-use inserts::insert_shell;
-use inserts::insert_surface;
-use inserts::insert_vertex;
-
-fn put_id(answer: Inserted, id: &mut [u32; 1]) -> u32 {
-    match answer {
-        Inserted::At(i) => {
-            *id = [i];
-            0
-        }
-        Inserted::Refused(n) => n,
-    }
-}
+ghost use mathlib.Core.Path.{_≡_};
+ghost use mathlib.Core.Bool.{true};
+ghost use mathlib.Core.List.{[]};
+ghost use Rattle.edits.specs.Answers.{insertAnswer, insertWords, insertReals};
+ghost use Rattle.crossings.specs.Crossing.{insertedNumber, insertedSlots};
+ghost use Rattle.crossings.specs.Given.{bodyKnown, regionKnown, faceKnown, finKnown, carrierKnown, edgeGood, vertexGood, bodyGiven, regionGiven, shellGiven, faceGiven, loopGiven, finGiven, edgeGiven, vertexGiven, carrierGiven, edgeOwn, vertexOwn, carrierOwn};
 
 #[no_mangle]
 pub extern "C" fn brunskerl_insert_body(
@@ -36,12 +13,13 @@ pub extern "C" fn brunskerl_insert_body(
     reals: &mut [f64],
     value: &[u32; 1],
     id: &mut [u32; 1],
-) -> u32 {
-    if !(value[0] <= 4) {
-        return unknown_tag(room, &words[..], &reals[..]);
-    }
-    let a0 = kind_of(value[0]);
-    put_id(insert_body(room, words, reals, a0), id)
+) -> u32
+    ensures answer { λ r. ⌜ r ≡ insertedNumber (insertAnswer (now (room .entry)) (now (words .entry)) (now (reals .entry)) (bodyKnown (now (value .entry))) 0) ⌝ }
+    ensures slots { λ _. ⌜ now (id .exit) ≡ insertedSlots (insertAnswer (now (room .entry)) (now (words .entry)) (now (reals .entry)) (bodyKnown (now (value .entry))) 0) (now (id .entry)) ⌝ }
+    ensures tables { λ _. ⌜ now (words .exit) ≡ insertWords (now (room .entry)) (now (words .entry)) (now (reals .entry)) (bodyKnown (now (value .entry))) 0 (bodyGiven (now (value .entry))) ⌝ }
+    ensures floats { λ _. ⌜ now (reals .exit) ≡ insertReals (now (room .entry)) (now (words .entry)) (now (reals .entry)) (bodyKnown (now (value .entry))) 0 [] ⌝ }
+{
+    additions::body(room, words, reals, value, id)
 }
 
 #[no_mangle]
@@ -51,14 +29,13 @@ pub extern "C" fn brunskerl_insert_region(
     reals: &mut [f64],
     value: &[u32; 2],
     id: &mut [u32; 1],
-) -> u32 {
-    if !(value[1] <= 1) {
-        return unknown_tag(room, &words[..], &reals[..]);
-    }
-    put_id(
-        insert_region(room, words, reals, value[0], value[1] != 0),
-        id,
-    )
+) -> u32
+    ensures answer { λ r. ⌜ r ≡ insertedNumber (insertAnswer (now (room .entry)) (now (words .entry)) (now (reals .entry)) (regionKnown (now (value .entry))) 1) ⌝ }
+    ensures slots { λ _. ⌜ now (id .exit) ≡ insertedSlots (insertAnswer (now (room .entry)) (now (words .entry)) (now (reals .entry)) (regionKnown (now (value .entry))) 1) (now (id .entry)) ⌝ }
+    ensures tables { λ _. ⌜ now (words .exit) ≡ insertWords (now (room .entry)) (now (words .entry)) (now (reals .entry)) (regionKnown (now (value .entry))) 1 (regionGiven (now (value .entry))) ⌝ }
+    ensures floats { λ _. ⌜ now (reals .exit) ≡ insertReals (now (room .entry)) (now (words .entry)) (now (reals .entry)) (regionKnown (now (value .entry))) 1 [] ⌝ }
+{
+    additions::region(room, words, reals, value, id)
 }
 
 #[no_mangle]
@@ -68,8 +45,13 @@ pub extern "C" fn brunskerl_insert_shell(
     reals: &mut [f64],
     value: &[u32; 1],
     id: &mut [u32; 1],
-) -> u32 {
-    put_id(insert_shell(room, words, reals, value[0]), id)
+) -> u32
+    ensures answer { λ r. ⌜ r ≡ insertedNumber (insertAnswer (now (room .entry)) (now (words .entry)) (now (reals .entry)) true 2) ⌝ }
+    ensures slots { λ _. ⌜ now (id .exit) ≡ insertedSlots (insertAnswer (now (room .entry)) (now (words .entry)) (now (reals .entry)) true 2) (now (id .entry)) ⌝ }
+    ensures tables { λ _. ⌜ now (words .exit) ≡ insertWords (now (room .entry)) (now (words .entry)) (now (reals .entry)) true 2 (shellGiven (now (value .entry))) ⌝ }
+    ensures floats { λ _. ⌜ now (reals .exit) ≡ insertReals (now (room .entry)) (now (words .entry)) (now (reals .entry)) true 2 [] ⌝ }
+{
+    additions::shell(room, words, reals, value, id)
 }
 
 #[no_mangle]
@@ -79,15 +61,13 @@ pub extern "C" fn brunskerl_insert_face(
     reals: &mut [f64],
     value: &[u32; 7],
     id: &mut [u32; 1],
-) -> u32 {
-    if !(four_tags(value)) {
-        return unknown_tag(room, &words[..], &reals[..]);
-    }
-    let a0 = ref_of(value[0], value[1]);
-    let a1 = ref_of(value[2], value[3]);
-    let a2 = ref_of(value[4], value[5]);
-    let a3 = sense_of(value[6]);
-    put_id(insert_face(room, words, reals, a0, a1, a2, a3), id)
+) -> u32
+    ensures answer { λ r. ⌜ r ≡ insertedNumber (insertAnswer (now (room .entry)) (now (words .entry)) (now (reals .entry)) (faceKnown (now (value .entry))) 3) ⌝ }
+    ensures slots { λ _. ⌜ now (id .exit) ≡ insertedSlots (insertAnswer (now (room .entry)) (now (words .entry)) (now (reals .entry)) (faceKnown (now (value .entry))) 3) (now (id .entry)) ⌝ }
+    ensures tables { λ _. ⌜ now (words .exit) ≡ insertWords (now (room .entry)) (now (words .entry)) (now (reals .entry)) (faceKnown (now (value .entry))) 3 (faceGiven (now (value .entry))) ⌝ }
+    ensures floats { λ _. ⌜ now (reals .exit) ≡ insertReals (now (room .entry)) (now (words .entry)) (now (reals .entry)) (faceKnown (now (value .entry))) 3 [] ⌝ }
+{
+    additions::face(room, words, reals, value, id)
 }
 
 #[no_mangle]
@@ -97,8 +77,13 @@ pub extern "C" fn brunskerl_insert_loop(
     reals: &mut [f64],
     value: &[u32; 1],
     id: &mut [u32; 1],
-) -> u32 {
-    put_id(insert_loop(room, words, reals, value[0]), id)
+) -> u32
+    ensures answer { λ r. ⌜ r ≡ insertedNumber (insertAnswer (now (room .entry)) (now (words .entry)) (now (reals .entry)) true 4) ⌝ }
+    ensures slots { λ _. ⌜ now (id .exit) ≡ insertedSlots (insertAnswer (now (room .entry)) (now (words .entry)) (now (reals .entry)) true 4) (now (id .entry)) ⌝ }
+    ensures tables { λ _. ⌜ now (words .exit) ≡ insertWords (now (room .entry)) (now (words .entry)) (now (reals .entry)) true 4 (loopGiven (now (value .entry))) ⌝ }
+    ensures floats { λ _. ⌜ now (reals .exit) ≡ insertReals (now (room .entry)) (now (words .entry)) (now (reals .entry)) true 4 [] ⌝ }
+{
+    additions::loop_(room, words, reals, value, id)
 }
 
 #[no_mangle]
@@ -108,15 +93,13 @@ pub extern "C" fn brunskerl_insert_fin(
     reals: &mut [f64],
     value: &[u32; 4],
     id: &mut [u32; 1],
-) -> u32 {
-    if !((value[2] <= 1) & (value[3] <= 1)) {
-        return unknown_tag(room, &words[..], &reals[..]);
-    }
-    let a2 = sense_of(value[2]);
-    put_id(
-        insert_fin(room, words, reals, value[0], value[1], a2, value[3] != 0),
-        id,
-    )
+) -> u32
+    ensures answer { λ r. ⌜ r ≡ insertedNumber (insertAnswer (now (room .entry)) (now (words .entry)) (now (reals .entry)) (finKnown (now (value .entry))) 5) ⌝ }
+    ensures slots { λ _. ⌜ now (id .exit) ≡ insertedSlots (insertAnswer (now (room .entry)) (now (words .entry)) (now (reals .entry)) (finKnown (now (value .entry))) 5) (now (id .entry)) ⌝ }
+    ensures tables { λ _. ⌜ now (words .exit) ≡ insertWords (now (room .entry)) (now (words .entry)) (now (reals .entry)) (finKnown (now (value .entry))) 5 (finGiven (now (value .entry))) ⌝ }
+    ensures floats { λ _. ⌜ now (reals .exit) ≡ insertReals (now (room .entry)) (now (words .entry)) (now (reals .entry)) (finKnown (now (value .entry))) 5 [] ⌝ }
+{
+    additions::fin(room, words, reals, value, id)
 }
 
 #[no_mangle]
@@ -127,15 +110,13 @@ pub extern "C" fn brunskerl_insert_edge(
     value: &[u32; 7],
     floats: &[f64; 1],
     id: &mut [u32; 1],
-) -> u32 {
-    if !(four_tags(value)) {
-        return unknown_tag(room, &words[..], &reals[..]);
-    }
-    let a0 = ref_of(value[0], value[1]);
-    let a1 = ref_of(value[2], value[3]);
-    let a2 = ref_of(value[4], value[5]);
-    let a3 = tolerance_of(value[6], floats[0]);
-    put_id(insert_edge(room, words, reals, a0, a1, a2, a3), id)
+) -> u32
+    ensures answer { λ r. ⌜ r ≡ insertedNumber (insertAnswer (now (room .entry)) (now (words .entry)) (now (reals .entry)) (edgeGood (now (value .entry)) (now (floats .entry))) 6) ⌝ }
+    ensures slots { λ _. ⌜ now (id .exit) ≡ insertedSlots (insertAnswer (now (room .entry)) (now (words .entry)) (now (reals .entry)) (edgeGood (now (value .entry)) (now (floats .entry))) 6) (now (id .entry)) ⌝ }
+    ensures tables { λ _. ⌜ now (words .exit) ≡ insertWords (now (room .entry)) (now (words .entry)) (now (reals .entry)) (edgeGood (now (value .entry)) (now (floats .entry))) 6 (edgeGiven (now (value .entry)) (now (floats .entry))) ⌝ }
+    ensures floats { λ _. ⌜ now (reals .exit) ≡ insertReals (now (room .entry)) (now (words .entry)) (now (reals .entry)) (edgeGood (now (value .entry)) (now (floats .entry))) 6 (edgeOwn (now (value .entry)) (now (floats .entry))) ⌝ }
+{
+    additions::edge(room, words, reals, value, floats, id)
 }
 
 #[no_mangle]
@@ -146,13 +127,13 @@ pub extern "C" fn brunskerl_insert_vertex(
     value: &[u32; 1],
     floats: &[f64; 4],
     id: &mut [u32; 1],
-) -> u32 {
-    if !(value[0] <= 1) {
-        return unknown_tag(room, &words[..], &reals[..]);
-    }
-    let a0 = point_of(floats);
-    let a1 = tolerance_of(value[0], floats[3]);
-    put_id(insert_vertex(room, words, reals, a0, a1), id)
+) -> u32
+    ensures answer { λ r. ⌜ r ≡ insertedNumber (insertAnswer (now (room .entry)) (now (words .entry)) (now (reals .entry)) (vertexGood (now (value .entry)) (now (floats .entry))) 7) ⌝ }
+    ensures slots { λ _. ⌜ now (id .exit) ≡ insertedSlots (insertAnswer (now (room .entry)) (now (words .entry)) (now (reals .entry)) (vertexGood (now (value .entry)) (now (floats .entry))) 7) (now (id .entry)) ⌝ }
+    ensures tables { λ _. ⌜ now (words .exit) ≡ insertWords (now (room .entry)) (now (words .entry)) (now (reals .entry)) (vertexGood (now (value .entry)) (now (floats .entry))) 7 (vertexGiven (now (value .entry)) (now (floats .entry))) ⌝ }
+    ensures floats { λ _. ⌜ now (reals .exit) ≡ insertReals (now (room .entry)) (now (words .entry)) (now (reals .entry)) (vertexGood (now (value .entry)) (now (floats .entry))) 7 (vertexOwn (now (value .entry)) (now (floats .entry))) ⌝ }
+{
+    additions::vertex(room, words, reals, value, floats, id)
 }
 
 #[no_mangle]
@@ -163,12 +144,13 @@ pub extern "C" fn brunskerl_insert_curve(
     value: &[u32; 1],
     floats: &[f64; 6],
     id: &mut [u32; 1],
-) -> u32 {
-    if !(value[0] <= 2) {
-        return unknown_tag(room, &words[..], &reals[..]);
-    }
-    let a0 = carrier_of(value, floats);
-    put_id(insert_curve(room, words, reals, a0), id)
+) -> u32
+    ensures answer { λ r. ⌜ r ≡ insertedNumber (insertAnswer (now (room .entry)) (now (words .entry)) (now (reals .entry)) (carrierKnown (now (value .entry))) 8) ⌝ }
+    ensures slots { λ _. ⌜ now (id .exit) ≡ insertedSlots (insertAnswer (now (room .entry)) (now (words .entry)) (now (reals .entry)) (carrierKnown (now (value .entry))) 8) (now (id .entry)) ⌝ }
+    ensures tables { λ _. ⌜ now (words .exit) ≡ insertWords (now (room .entry)) (now (words .entry)) (now (reals .entry)) (carrierKnown (now (value .entry))) 8 (carrierGiven (now (value .entry)) (now (floats .entry))) ⌝ }
+    ensures floats { λ _. ⌜ now (reals .exit) ≡ insertReals (now (room .entry)) (now (words .entry)) (now (reals .entry)) (carrierKnown (now (value .entry))) 8 (carrierOwn (now (value .entry)) (now (floats .entry))) ⌝ }
+{
+    additions::curve(room, words, reals, value, floats, id)
 }
 
 #[no_mangle]
@@ -179,10 +161,11 @@ pub extern "C" fn brunskerl_insert_surface(
     value: &[u32; 1],
     floats: &[f64; 6],
     id: &mut [u32; 1],
-) -> u32 {
-    if !(value[0] <= 2) {
-        return unknown_tag(room, &words[..], &reals[..]);
-    }
-    let a0 = carrier_of(value, floats);
-    put_id(insert_surface(room, words, reals, a0), id)
+) -> u32
+    ensures answer { λ r. ⌜ r ≡ insertedNumber (insertAnswer (now (room .entry)) (now (words .entry)) (now (reals .entry)) (carrierKnown (now (value .entry))) 9) ⌝ }
+    ensures slots { λ _. ⌜ now (id .exit) ≡ insertedSlots (insertAnswer (now (room .entry)) (now (words .entry)) (now (reals .entry)) (carrierKnown (now (value .entry))) 9) (now (id .entry)) ⌝ }
+    ensures tables { λ _. ⌜ now (words .exit) ≡ insertWords (now (room .entry)) (now (words .entry)) (now (reals .entry)) (carrierKnown (now (value .entry))) 9 (carrierGiven (now (value .entry)) (now (floats .entry))) ⌝ }
+    ensures floats { λ _. ⌜ now (reals .exit) ≡ insertReals (now (room .entry)) (now (words .entry)) (now (reals .entry)) (carrierKnown (now (value .entry))) 9 (carrierOwn (now (value .entry)) (now (floats .entry))) ⌝ }
+{
+    additions::surface(room, words, reals, value, floats, id)
 }

@@ -1,10 +1,9 @@
-// The station's calls, for C and Rust: each is a thin function over a proved call. An answer that is an enum crosses as its
-// number, 0 or the refusal, and its values in lent slots, which a refusal leaves as they were.
-pub mod crossing;
+// The station's calls, for C and Rust: each is one proved call, exported. An answer that is an enum crosses as its number, 0 or
+// the refusal, and its values in lent slots, which a refusal leaves as they were (`crossings`).
 pub mod entries;
 pub mod inserting;
 pub mod lookups;
 pub mod models;
 pub mod setting;
-pub mod tags;
+pub mod spans;
 pub mod walking;

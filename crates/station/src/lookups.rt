@@ -1,28 +1,10 @@
 // The lookups of model.rs: a record's value in lent slots.
-use crate::crossing::body_value;
-use crate::crossing::edge_own;
-use crate::crossing::edge_value;
-use crate::crossing::face_value;
-use crate::crossing::fin_value;
-use crate::crossing::loop_value;
-use crate::crossing::region_value;
-use crate::crossing::shell_value;
-use crate::crossing::vertex_own;
-use crate::crossing::vertex_value;
-use fields::carrier_fields;
-use fields::carrier_floats;
-use lookup::BodyFound;
-use lookup::CarrierFound;
-use lookup::EdgeFound;
-use lookup::FaceFound;
-use lookup::FinFound;
-use lookup::LoopFound;
-use lookup::RegionFound;
-use lookup::ShellFound;
-use lookup::VertexFound;
 ghost use mathlib.Core.Path.{_≡_};
-ghost use Rattle.lookup.specs.Lookup.{bodyAnswer, regionAnswer, shellAnswer, faceAnswer, loopAnswer, finAnswer, edgeAnswer, vertexAnswer, curveAnswer, surfaceAnswer};
-ghost use Rattle.station.specs.Crossing.{bodyNumber, bodySlots, regionNumber, regionSlots, shellNumber, shellSlots, faceNumber, faceSlots, loopNumber, loopSlots, finNumber, finSlots, edgeNumber, edgeSlots, edgeReals, vertexNumber, vertexSlots, vertexReals, carrierNumber, carrierSlots, carrierReals};
+ghost use mathlib.Core.Bool.{cond};
+ghost use lib.Dec.{ltb};
+ghost use Rattle.lookup.specs.Lookup.{bodyAnswer, regionAnswer, shellAnswer, faceAnswer, loopAnswer, finAnswer, edgeAnswer, vertexAnswer, curveAnswer, surfaceAnswer, containsAnswer};
+ghost use Rattle.crossings.specs.Crossing.{bodyNumber, bodySlots, regionNumber, regionSlots, shellNumber, shellSlots, faceNumber, faceSlots, loopNumber, loopSlots, finNumber, finSlots, edgeNumber, edgeSlots, edgeReals, vertexNumber, vertexSlots, vertexReals, carrierNumber, carrierSlots, carrierReals, containedNumber, containedSlots};
+ghost use Rattle.crossings.specs.Given.{tagNumber, entityOf};
 
 #[no_mangle]
 pub extern "C" fn brunskerl_body(
@@ -35,13 +17,7 @@ pub extern "C" fn brunskerl_body(
     ensures answer { λ r. ⌜ r ≡ bodyNumber (bodyAnswer (now (room .entry)) (now (words .entry)) (now (reals .entry)) id) ⌝ }
     ensures slots { λ _. ⌜ now (value .exit) ≡ bodySlots (bodyAnswer (now (room .entry)) (now (words .entry)) (now (reals .entry)) id) (now (value .entry)) ⌝ }
 {
-    match lookup::body(room, words, reals, id) {
-        BodyFound::Is(r) => {
-            *value = body_value(r);
-            0
-        }
-        BodyFound::Refused(n) => n,
-    }
+    queries::lookups::body(room, words, reals, id, value)
 }
 
 #[no_mangle]
@@ -55,13 +31,7 @@ pub extern "C" fn brunskerl_region(
     ensures answer { λ r. ⌜ r ≡ regionNumber (regionAnswer (now (room .entry)) (now (words .entry)) (now (reals .entry)) id) ⌝ }
     ensures slots { λ _. ⌜ now (value .exit) ≡ regionSlots (regionAnswer (now (room .entry)) (now (words .entry)) (now (reals .entry)) id) (now (value .entry)) ⌝ }
 {
-    match lookup::region(room, words, reals, id) {
-        RegionFound::Is(r) => {
-            *value = region_value(r);
-            0
-        }
-        RegionFound::Refused(n) => n,
-    }
+    queries::lookups::region(room, words, reals, id, value)
 }
 
 #[no_mangle]
@@ -75,13 +45,7 @@ pub extern "C" fn brunskerl_shell(
     ensures answer { λ r. ⌜ r ≡ shellNumber (shellAnswer (now (room .entry)) (now (words .entry)) (now (reals .entry)) id) ⌝ }
     ensures slots { λ _. ⌜ now (value .exit) ≡ shellSlots (shellAnswer (now (room .entry)) (now (words .entry)) (now (reals .entry)) id) (now (value .entry)) ⌝ }
 {
-    match lookup::shell(room, words, reals, id) {
-        ShellFound::Is(r) => {
-            *value = shell_value(r);
-            0
-        }
-        ShellFound::Refused(n) => n,
-    }
+    queries::lookups::shell(room, words, reals, id, value)
 }
 
 #[no_mangle]
@@ -95,13 +59,7 @@ pub extern "C" fn brunskerl_face(
     ensures answer { λ r. ⌜ r ≡ faceNumber (faceAnswer (now (room .entry)) (now (words .entry)) (now (reals .entry)) id) ⌝ }
     ensures slots { λ _. ⌜ now (value .exit) ≡ faceSlots (faceAnswer (now (room .entry)) (now (words .entry)) (now (reals .entry)) id) (now (value .entry)) ⌝ }
 {
-    match lookup::face(room, words, reals, id) {
-        FaceFound::Is(r) => {
-            *value = face_value(r);
-            0
-        }
-        FaceFound::Refused(n) => n,
-    }
+    queries::lookups::face(room, words, reals, id, value)
 }
 
 #[no_mangle]
@@ -115,13 +73,7 @@ pub extern "C" fn brunskerl_loop(
     ensures answer { λ r. ⌜ r ≡ loopNumber (loopAnswer (now (room .entry)) (now (words .entry)) (now (reals .entry)) id) ⌝ }
     ensures slots { λ _. ⌜ now (value .exit) ≡ loopSlots (loopAnswer (now (room .entry)) (now (words .entry)) (now (reals .entry)) id) (now (value .entry)) ⌝ }
 {
-    match lookup::loop_(room, words, reals, id) {
-        LoopFound::Is(r) => {
-            *value = loop_value(r);
-            0
-        }
-        LoopFound::Refused(n) => n,
-    }
+    queries::lookups::loop_(room, words, reals, id, value)
 }
 
 #[no_mangle]
@@ -135,13 +87,7 @@ pub extern "C" fn brunskerl_fin(
     ensures answer { λ r. ⌜ r ≡ finNumber (finAnswer (now (room .entry)) (now (words .entry)) (now (reals .entry)) id) ⌝ }
     ensures slots { λ _. ⌜ now (value .exit) ≡ finSlots (finAnswer (now (room .entry)) (now (words .entry)) (now (reals .entry)) id) (now (value .entry)) ⌝ }
 {
-    match lookup::fin(room, words, reals, id) {
-        FinFound::Is(r) => {
-            *value = fin_value(r);
-            0
-        }
-        FinFound::Refused(n) => n,
-    }
+    queries::lookups::fin(room, words, reals, id, value)
 }
 
 #[no_mangle]
@@ -157,14 +103,7 @@ pub extern "C" fn brunskerl_edge(
     ensures slots { λ _. ⌜ now (value .exit) ≡ edgeSlots (edgeAnswer (now (room .entry)) (now (words .entry)) (now (reals .entry)) id) (now (value .entry)) ⌝ }
     ensures floats { λ _. ⌜ now (floats .exit) ≡ edgeReals (edgeAnswer (now (room .entry)) (now (words .entry)) (now (reals .entry)) id) (now (floats .entry)) ⌝ }
 {
-    match lookup::edge(room, words, reals, id) {
-        EdgeFound::Is(r) => {
-            *value = edge_value(r);
-            *floats = edge_own(r);
-            0
-        }
-        EdgeFound::Refused(n) => n,
-    }
+    queries::lookups::edge(room, words, reals, id, value, floats)
 }
 
 #[no_mangle]
@@ -180,14 +119,7 @@ pub extern "C" fn brunskerl_vertex(
     ensures slots { λ _. ⌜ now (value .exit) ≡ vertexSlots (vertexAnswer (now (room .entry)) (now (words .entry)) (now (reals .entry)) id) (now (value .entry)) ⌝ }
     ensures floats { λ _. ⌜ now (floats .exit) ≡ vertexReals (vertexAnswer (now (room .entry)) (now (words .entry)) (now (reals .entry)) id) (now (floats .entry)) ⌝ }
 {
-    match lookup::vertex(room, words, reals, id) {
-        VertexFound::Is(r) => {
-            *value = vertex_value(r);
-            *floats = vertex_own(r);
-            0
-        }
-        VertexFound::Refused(n) => n,
-    }
+    queries::lookups::vertex(room, words, reals, id, value, floats)
 }
 
 #[no_mangle]
@@ -203,14 +135,7 @@ pub extern "C" fn brunskerl_curve(
     ensures slots { λ _. ⌜ now (value .exit) ≡ carrierSlots (curveAnswer (now (room .entry)) (now (words .entry)) (now (reals .entry)) id) (now (value .entry)) ⌝ }
     ensures floats { λ _. ⌜ now (floats .exit) ≡ carrierReals (curveAnswer (now (room .entry)) (now (words .entry)) (now (reals .entry)) id) (now (floats .entry)) ⌝ }
 {
-    match lookup::curve(room, words, reals, id) {
-        CarrierFound::Is(r) => {
-            *value = carrier_fields(r);
-            *floats = carrier_floats(r);
-            0
-        }
-        CarrierFound::Refused(n) => n,
-    }
+    queries::lookups::curve(room, words, reals, id, value, floats)
 }
 
 #[no_mangle]
@@ -226,12 +151,21 @@ pub extern "C" fn brunskerl_surface(
     ensures slots { λ _. ⌜ now (value .exit) ≡ carrierSlots (surfaceAnswer (now (room .entry)) (now (words .entry)) (now (reals .entry)) id) (now (value .entry)) ⌝ }
     ensures floats { λ _. ⌜ now (floats .exit) ≡ carrierReals (surfaceAnswer (now (room .entry)) (now (words .entry)) (now (reals .entry)) id) (now (floats .entry)) ⌝ }
 {
-    match lookup::surface(room, words, reals, id) {
-        CarrierFound::Is(r) => {
-            *value = carrier_fields(r);
-            *floats = carrier_floats(r);
-            0
-        }
-        CarrierFound::Refused(n) => n,
-    }
+    queries::lookups::surface(room, words, reals, id, value, floats)
+}
+
+// Whether an entity exists, by its class, which is the number of its table.
+#[no_mangle]
+pub extern "C" fn brunskerl_contains(
+    room: &[usize; 10],
+    words: &[u32],
+    reals: &[f64],
+    class: u32,
+    id: usize,
+    value: &mut [u32; 1],
+) -> u32
+    ensures answer { λ r. ⌜ r ≡ cond (ltb class 8) (containedNumber (containsAnswer (now (room .entry)) (now (words .entry)) (now (reals .entry)) (entityOf class id))) (tagNumber (now (room .entry)) (now (words .entry)) (now (reals .entry))) ⌝ }
+    ensures slots { λ _. ⌜ now (value .exit) ≡ cond (ltb class 8) (containedSlots (containsAnswer (now (room .entry)) (now (words .entry)) (now (reals .entry)) (entityOf class id)) (now (value .entry))) (now (value .entry)) ⌝ }
+{
+    queries::contains(room, words, reals, class, id, value)
 }

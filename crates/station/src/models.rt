@@ -1,10 +1,8 @@
 // Making an empty model, and its precision.
-use lookup::PrecisionFound;
-use lookup::precision;
 ghost use mathlib.Core.Path.{_≡_};
 ghost use Rattle.edits.specs.Answers.{makeNumber, makeWords, makeReals};
 ghost use Rattle.lookup.specs.Lookup.{precisionAnswer};
-ghost use Rattle.station.specs.Crossing.{precisionNumber, precisionSlots};
+ghost use Rattle.crossings.specs.Crossing.{precisionNumber, precisionSlots};
 
 // An empty model with its precision.
 #[no_mangle]
@@ -32,11 +30,5 @@ pub extern "C" fn brunskerl_precision(
     ensures answer { λ r. ⌜ r ≡ precisionNumber (precisionAnswer (now (room .entry)) (now (words .entry)) (now (reals .entry))) ⌝ }
     ensures slots { λ _. ⌜ now (value .exit) ≡ precisionSlots (precisionAnswer (now (room .entry)) (now (words .entry)) (now (reals .entry))) (now (value .entry)) ⌝ }
 {
-    match precision(room, words, reals) {
-        PrecisionFound::Is(p) => {
-            *value = [p];
-            0
-        }
-        PrecisionFound::Refused(n) => n,
-    }
+    queries::precision(room, words, reals, value)
 }

@@ -1,23 +1,10 @@
 // Edits of a record's fields.
-use crate::tags::four_tags;
-use crate::tags::point_of;
-use crate::tags::ref_of;
-use crate::tags::unknown_tag;
-use entity::records::carrier_of;
-use entity::records::kind_of;
-use entity::records::sense_of;
-use entity::records::tolerance_of;
-use sets::set_body;
-use sets::set_curve;
-use sets::set_edge;
-use sets::set_face;
-use sets::set_fin;
-use sets::set_fin_geometry;
-use sets::set_loop;
-use sets::set_region;
-use sets::set_shell;
-use sets::set_surface;
-use sets::set_vertex;
+ghost use mathlib.Core.Path.{_≡_};
+ghost use mathlib.Core.Bool.{true};
+ghost use mathlib.Core.List.{[], _∷_};
+ghost use Rattle.edits.specs.Answers.{editNumber, editWords, editReals};
+ghost use Rattle.crossings.specs.Given.{bodyKnown, regionKnown, faceKnown, finKnown, carrierKnown, edgeGood, vertexGood, bodyGiven, regionGiven, shellGiven, faceGiven, loopGiven, finGiven, edgeGiven, vertexGiven, carrierGiven, edgeOwn, vertexOwn, carrierOwn};
+ghost use Rattle.fields.specs.Fields.{mark};
 
 #[no_mangle]
 pub extern "C" fn brunskerl_set_body(
@@ -26,12 +13,12 @@ pub extern "C" fn brunskerl_set_body(
     reals: &mut [f64],
     id: usize,
     value: &[u32; 1],
-) -> u32 {
-    if !(value[0] <= 4) {
-        return unknown_tag(room, &words[..], &reals[..]);
-    }
-    let a0 = kind_of(value[0]);
-    set_body(room, words, reals, id, a0)
+) -> u32
+    ensures answer { λ r. ⌜ r ≡ editNumber (now (room .entry)) (now (words .entry)) (now (reals .entry)) (bodyKnown (now (value .entry))) 0 id ⌝ }
+    ensures tables { λ _. ⌜ now (words .exit) ≡ editWords (now (room .entry)) (now (words .entry)) (now (reals .entry)) (bodyKnown (now (value .entry))) 0 id 0 (bodyGiven (now (value .entry))) ⌝ }
+    ensures floats { λ _. ⌜ now (reals .exit) ≡ editReals (now (room .entry)) (now (words .entry)) (now (reals .entry)) (bodyKnown (now (value .entry))) 0 id [] ⌝ }
+{
+    changes::body(room, words, reals, id, value)
 }
 
 #[no_mangle]
@@ -41,11 +28,12 @@ pub extern "C" fn brunskerl_set_region(
     reals: &mut [f64],
     id: usize,
     value: &[u32; 2],
-) -> u32 {
-    if !(value[1] <= 1) {
-        return unknown_tag(room, &words[..], &reals[..]);
-    }
-    set_region(room, words, reals, id, value[0], value[1] != 0)
+) -> u32
+    ensures answer { λ r. ⌜ r ≡ editNumber (now (room .entry)) (now (words .entry)) (now (reals .entry)) (regionKnown (now (value .entry))) 1 id ⌝ }
+    ensures tables { λ _. ⌜ now (words .exit) ≡ editWords (now (room .entry)) (now (words .entry)) (now (reals .entry)) (regionKnown (now (value .entry))) 1 id 0 (regionGiven (now (value .entry))) ⌝ }
+    ensures floats { λ _. ⌜ now (reals .exit) ≡ editReals (now (room .entry)) (now (words .entry)) (now (reals .entry)) (regionKnown (now (value .entry))) 1 id [] ⌝ }
+{
+    changes::region(room, words, reals, id, value)
 }
 
 #[no_mangle]
@@ -55,8 +43,12 @@ pub extern "C" fn brunskerl_set_shell(
     reals: &mut [f64],
     id: usize,
     value: &[u32; 1],
-) -> u32 {
-    set_shell(room, words, reals, id, value[0])
+) -> u32
+    ensures answer { λ r. ⌜ r ≡ editNumber (now (room .entry)) (now (words .entry)) (now (reals .entry)) true 2 id ⌝ }
+    ensures tables { λ _. ⌜ now (words .exit) ≡ editWords (now (room .entry)) (now (words .entry)) (now (reals .entry)) true 2 id 0 (shellGiven (now (value .entry))) ⌝ }
+    ensures floats { λ _. ⌜ now (reals .exit) ≡ editReals (now (room .entry)) (now (words .entry)) (now (reals .entry)) true 2 id [] ⌝ }
+{
+    changes::shell(room, words, reals, id, value)
 }
 
 #[no_mangle]
@@ -66,15 +58,12 @@ pub extern "C" fn brunskerl_set_face(
     reals: &mut [f64],
     id: usize,
     value: &[u32; 7],
-) -> u32 {
-    if !(four_tags(value)) {
-        return unknown_tag(room, &words[..], &reals[..]);
-    }
-    let a0 = ref_of(value[0], value[1]);
-    let a1 = ref_of(value[2], value[3]);
-    let a2 = ref_of(value[4], value[5]);
-    let a3 = sense_of(value[6]);
-    set_face(room, words, reals, id, a0, a1, a2, a3)
+) -> u32
+    ensures answer { λ r. ⌜ r ≡ editNumber (now (room .entry)) (now (words .entry)) (now (reals .entry)) (faceKnown (now (value .entry))) 3 id ⌝ }
+    ensures tables { λ _. ⌜ now (words .exit) ≡ editWords (now (room .entry)) (now (words .entry)) (now (reals .entry)) (faceKnown (now (value .entry))) 3 id 0 (faceGiven (now (value .entry))) ⌝ }
+    ensures floats { λ _. ⌜ now (reals .exit) ≡ editReals (now (room .entry)) (now (words .entry)) (now (reals .entry)) (faceKnown (now (value .entry))) 3 id [] ⌝ }
+{
+    changes::face(room, words, reals, id, value)
 }
 
 #[no_mangle]
@@ -84,8 +73,12 @@ pub extern "C" fn brunskerl_set_loop(
     reals: &mut [f64],
     id: usize,
     value: &[u32; 1],
-) -> u32 {
-    set_loop(room, words, reals, id, value[0])
+) -> u32
+    ensures answer { λ r. ⌜ r ≡ editNumber (now (room .entry)) (now (words .entry)) (now (reals .entry)) true 4 id ⌝ }
+    ensures tables { λ _. ⌜ now (words .exit) ≡ editWords (now (room .entry)) (now (words .entry)) (now (reals .entry)) true 4 id 0 (loopGiven (now (value .entry))) ⌝ }
+    ensures floats { λ _. ⌜ now (reals .exit) ≡ editReals (now (room .entry)) (now (words .entry)) (now (reals .entry)) true 4 id [] ⌝ }
+{
+    changes::loop_(room, words, reals, id, value)
 }
 
 #[no_mangle]
@@ -95,21 +88,12 @@ pub extern "C" fn brunskerl_set_fin(
     reals: &mut [f64],
     id: usize,
     value: &[u32; 4],
-) -> u32 {
-    if !((value[2] <= 1) & (value[3] <= 1)) {
-        return unknown_tag(room, &words[..], &reals[..]);
-    }
-    let a2 = sense_of(value[2]);
-    set_fin(
-        room,
-        words,
-        reals,
-        id,
-        value[0],
-        value[1],
-        a2,
-        value[3] != 0,
-    )
+) -> u32
+    ensures answer { λ r. ⌜ r ≡ editNumber (now (room .entry)) (now (words .entry)) (now (reals .entry)) (finKnown (now (value .entry))) 5 id ⌝ }
+    ensures tables { λ _. ⌜ now (words .exit) ≡ editWords (now (room .entry)) (now (words .entry)) (now (reals .entry)) (finKnown (now (value .entry))) 5 id 0 (finGiven (now (value .entry))) ⌝ }
+    ensures floats { λ _. ⌜ now (reals .exit) ≡ editReals (now (room .entry)) (now (words .entry)) (now (reals .entry)) (finKnown (now (value .entry))) 5 id [] ⌝ }
+{
+    changes::fin(room, words, reals, id, value)
 }
 
 #[no_mangle]
@@ -120,15 +104,12 @@ pub extern "C" fn brunskerl_set_edge(
     id: usize,
     value: &[u32; 7],
     floats: &[f64; 1],
-) -> u32 {
-    if !(four_tags(value)) {
-        return unknown_tag(room, &words[..], &reals[..]);
-    }
-    let a0 = ref_of(value[0], value[1]);
-    let a1 = ref_of(value[2], value[3]);
-    let a2 = ref_of(value[4], value[5]);
-    let a3 = tolerance_of(value[6], floats[0]);
-    set_edge(room, words, reals, id, a0, a1, a2, a3)
+) -> u32
+    ensures answer { λ r. ⌜ r ≡ editNumber (now (room .entry)) (now (words .entry)) (now (reals .entry)) (edgeGood (now (value .entry)) (now (floats .entry))) 6 id ⌝ }
+    ensures tables { λ _. ⌜ now (words .exit) ≡ editWords (now (room .entry)) (now (words .entry)) (now (reals .entry)) (edgeGood (now (value .entry)) (now (floats .entry))) 6 id 0 (edgeGiven (now (value .entry)) (now (floats .entry))) ⌝ }
+    ensures floats { λ _. ⌜ now (reals .exit) ≡ editReals (now (room .entry)) (now (words .entry)) (now (reals .entry)) (edgeGood (now (value .entry)) (now (floats .entry))) 6 id (edgeOwn (now (value .entry)) (now (floats .entry))) ⌝ }
+{
+    changes::edge(room, words, reals, id, value, floats)
 }
 
 #[no_mangle]
@@ -139,13 +120,12 @@ pub extern "C" fn brunskerl_set_vertex(
     id: usize,
     value: &[u32; 1],
     floats: &[f64; 4],
-) -> u32 {
-    if !(value[0] <= 1) {
-        return unknown_tag(room, &words[..], &reals[..]);
-    }
-    let a0 = point_of(floats);
-    let a1 = tolerance_of(value[0], floats[3]);
-    set_vertex(room, words, reals, id, a0, a1)
+) -> u32
+    ensures answer { λ r. ⌜ r ≡ editNumber (now (room .entry)) (now (words .entry)) (now (reals .entry)) (vertexGood (now (value .entry)) (now (floats .entry))) 7 id ⌝ }
+    ensures tables { λ _. ⌜ now (words .exit) ≡ editWords (now (room .entry)) (now (words .entry)) (now (reals .entry)) (vertexGood (now (value .entry)) (now (floats .entry))) 7 id 0 (vertexGiven (now (value .entry)) (now (floats .entry))) ⌝ }
+    ensures floats { λ _. ⌜ now (reals .exit) ≡ editReals (now (room .entry)) (now (words .entry)) (now (reals .entry)) (vertexGood (now (value .entry)) (now (floats .entry))) 7 id (vertexOwn (now (value .entry)) (now (floats .entry))) ⌝ }
+{
+    changes::vertex(room, words, reals, id, value, floats)
 }
 
 #[no_mangle]
@@ -156,12 +136,12 @@ pub extern "C" fn brunskerl_set_curve(
     id: usize,
     value: &[u32; 1],
     floats: &[f64; 6],
-) -> u32 {
-    if !(value[0] <= 2) {
-        return unknown_tag(room, &words[..], &reals[..]);
-    }
-    let a0 = carrier_of(value, floats);
-    set_curve(room, words, reals, id, a0)
+) -> u32
+    ensures answer { λ r. ⌜ r ≡ editNumber (now (room .entry)) (now (words .entry)) (now (reals .entry)) (carrierKnown (now (value .entry))) 8 id ⌝ }
+    ensures tables { λ _. ⌜ now (words .exit) ≡ editWords (now (room .entry)) (now (words .entry)) (now (reals .entry)) (carrierKnown (now (value .entry))) 8 id 0 (carrierGiven (now (value .entry)) (now (floats .entry))) ⌝ }
+    ensures floats { λ _. ⌜ now (reals .exit) ≡ editReals (now (room .entry)) (now (words .entry)) (now (reals .entry)) (carrierKnown (now (value .entry))) 8 id (carrierOwn (now (value .entry)) (now (floats .entry))) ⌝ }
+{
+    changes::curve(room, words, reals, id, value, floats)
 }
 
 #[no_mangle]
@@ -172,12 +152,12 @@ pub extern "C" fn brunskerl_set_surface(
     id: usize,
     value: &[u32; 1],
     floats: &[f64; 6],
-) -> u32 {
-    if !(value[0] <= 2) {
-        return unknown_tag(room, &words[..], &reals[..]);
-    }
-    let a0 = carrier_of(value, floats);
-    set_surface(room, words, reals, id, a0)
+) -> u32
+    ensures answer { λ r. ⌜ r ≡ editNumber (now (room .entry)) (now (words .entry)) (now (reals .entry)) (carrierKnown (now (value .entry))) 9 id ⌝ }
+    ensures tables { λ _. ⌜ now (words .exit) ≡ editWords (now (room .entry)) (now (words .entry)) (now (reals .entry)) (carrierKnown (now (value .entry))) 9 id 0 (carrierGiven (now (value .entry)) (now (floats .entry))) ⌝ }
+    ensures floats { λ _. ⌜ now (reals .exit) ≡ editReals (now (room .entry)) (now (words .entry)) (now (reals .entry)) (carrierKnown (now (value .entry))) 9 id (carrierOwn (now (value .entry)) (now (floats .entry))) ⌝ }
+{
+    changes::surface(room, words, reals, id, value, floats)
 }
 
 // Marks a fin as having a pcurve.
@@ -187,6 +167,10 @@ pub extern "C" fn brunskerl_set_fin_geometry(
     words: &mut [u32],
     reals: &mut [f64],
     id: usize,
-) -> u32 {
-    set_fin_geometry(room, words, reals, id)
+) -> u32
+    ensures answer { λ r. ⌜ r ≡ editNumber (now (room .entry)) (now (words .entry)) (now (reals .entry)) true 5 id ⌝ }
+    ensures tables { λ _. ⌜ now (words .exit) ≡ editWords (now (room .entry)) (now (words .entry)) (now (reals .entry)) true 5 id 3 (mark true ∷ []) ⌝ }
+    ensures floats { λ _. ⌜ now (reals .exit) ≡ editReals (now (room .entry)) (now (words .entry)) (now (reals .entry)) true 5 id [] ⌝ }
+{
+    sets::set_fin_geometry(room, words, reals, id)
 }

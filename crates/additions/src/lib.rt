@@ -1,0 +1,235 @@
+// A record more, its fields as numbers: its id in a lent slot. A tag that is none gives 1, right after 9.
+use crossings::tags::body_known;
+use crossings::tags::carrier_known;
+use crossings::tags::face_known;
+use crossings::tags::fin_known;
+use crossings::tags::own_known;
+use crossings::tags::point_of;
+use crossings::tags::region_known;
+use crossings::tags::unknown_tag;
+use crossings::values::put_id;
+use entity::records::carrier_of;
+use entity::records::kind_of;
+use entity::records::ref_at;
+use entity::records::sense_of;
+use entity::records::tolerance_of;
+use inserts::insert_body;
+use inserts::insert_curve;
+use inserts::insert_edge;
+use inserts::insert_face;
+use inserts::insert_fin;
+use inserts::insert_loop;
+use inserts::insert_region;
+use inserts::insert_shell;
+use inserts::insert_surface;
+use inserts::insert_vertex;
+ghost use mathlib.Core.Path.{_≡_};
+ghost use mathlib.Core.Bool.{true};
+ghost use mathlib.Core.List.{[]};
+ghost use Rattle.edits.specs.Answers.{insertAnswer, insertWords, insertReals};
+ghost use Rattle.crossings.specs.Crossing.{insertedNumber, insertedSlots};
+ghost use Rattle.crossings.specs.Given.{bodyKnown, regionKnown, faceKnown, finKnown, carrierKnown, edgeGood, vertexGood, bodyGiven, regionGiven, shellGiven, faceGiven, loopGiven, finGiven, edgeGiven, vertexGiven, carrierGiven, edgeOwn, vertexOwn, carrierOwn};
+
+pub fn body(
+    room: &[usize; 10],
+    words: &mut [u32],
+    reals: &mut [f64],
+    value: &[u32; 1],
+    id: &mut [u32; 1],
+) -> u32
+    ensures answer { λ r. ⌜ r ≡ insertedNumber (insertAnswer (now (room .entry)) (now (words .entry)) (now (reals .entry)) (bodyKnown (now (value .entry))) 0) ⌝ }
+    ensures slots { λ _. ⌜ now (id .exit) ≡ insertedSlots (insertAnswer (now (room .entry)) (now (words .entry)) (now (reals .entry)) (bodyKnown (now (value .entry))) 0) (now (id .entry)) ⌝ }
+    ensures tables { λ _. ⌜ now (words .exit) ≡ insertWords (now (room .entry)) (now (words .entry)) (now (reals .entry)) (bodyKnown (now (value .entry))) 0 (bodyGiven (now (value .entry))) ⌝ }
+    ensures floats { λ _. ⌜ now (reals .exit) ≡ insertReals (now (room .entry)) (now (words .entry)) (now (reals .entry)) (bodyKnown (now (value .entry))) 0 [] ⌝ }
+{
+    if !body_known(value) {
+        return unknown_tag(room, &words[..], &reals[..]);
+    }
+    let kind = kind_of(value[0]);
+    put_id(insert_body(room, words, reals, kind), id)
+}
+
+pub fn region(
+    room: &[usize; 10],
+    words: &mut [u32],
+    reals: &mut [f64],
+    value: &[u32; 2],
+    id: &mut [u32; 1],
+) -> u32
+    ensures answer { λ r. ⌜ r ≡ insertedNumber (insertAnswer (now (room .entry)) (now (words .entry)) (now (reals .entry)) (regionKnown (now (value .entry))) 1) ⌝ }
+    ensures slots { λ _. ⌜ now (id .exit) ≡ insertedSlots (insertAnswer (now (room .entry)) (now (words .entry)) (now (reals .entry)) (regionKnown (now (value .entry))) 1) (now (id .entry)) ⌝ }
+    ensures tables { λ _. ⌜ now (words .exit) ≡ insertWords (now (room .entry)) (now (words .entry)) (now (reals .entry)) (regionKnown (now (value .entry))) 1 (regionGiven (now (value .entry))) ⌝ }
+    ensures floats { λ _. ⌜ now (reals .exit) ≡ insertReals (now (room .entry)) (now (words .entry)) (now (reals .entry)) (regionKnown (now (value .entry))) 1 [] ⌝ }
+{
+    if !region_known(value) {
+        return unknown_tag(room, &words[..], &reals[..]);
+    }
+    put_id(
+        insert_region(room, words, reals, value[0], value[1] != 0),
+        id,
+    )
+}
+
+pub fn shell(
+    room: &[usize; 10],
+    words: &mut [u32],
+    reals: &mut [f64],
+    value: &[u32; 1],
+    id: &mut [u32; 1],
+) -> u32
+    ensures answer { λ r. ⌜ r ≡ insertedNumber (insertAnswer (now (room .entry)) (now (words .entry)) (now (reals .entry)) true 2) ⌝ }
+    ensures slots { λ _. ⌜ now (id .exit) ≡ insertedSlots (insertAnswer (now (room .entry)) (now (words .entry)) (now (reals .entry)) true 2) (now (id .entry)) ⌝ }
+    ensures tables { λ _. ⌜ now (words .exit) ≡ insertWords (now (room .entry)) (now (words .entry)) (now (reals .entry)) true 2 (shellGiven (now (value .entry))) ⌝ }
+    ensures floats { λ _. ⌜ now (reals .exit) ≡ insertReals (now (room .entry)) (now (words .entry)) (now (reals .entry)) true 2 [] ⌝ }
+{
+    put_id(insert_shell(room, words, reals, value[0]), id)
+}
+
+pub fn face(
+    room: &[usize; 10],
+    words: &mut [u32],
+    reals: &mut [f64],
+    value: &[u32; 7],
+    id: &mut [u32; 1],
+) -> u32
+    ensures answer { λ r. ⌜ r ≡ insertedNumber (insertAnswer (now (room .entry)) (now (words .entry)) (now (reals .entry)) (faceKnown (now (value .entry))) 3) ⌝ }
+    ensures slots { λ _. ⌜ now (id .exit) ≡ insertedSlots (insertAnswer (now (room .entry)) (now (words .entry)) (now (reals .entry)) (faceKnown (now (value .entry))) 3) (now (id .entry)) ⌝ }
+    ensures tables { λ _. ⌜ now (words .exit) ≡ insertWords (now (room .entry)) (now (words .entry)) (now (reals .entry)) (faceKnown (now (value .entry))) 3 (faceGiven (now (value .entry))) ⌝ }
+    ensures floats { λ _. ⌜ now (reals .exit) ≡ insertReals (now (room .entry)) (now (words .entry)) (now (reals .entry)) (faceKnown (now (value .entry))) 3 [] ⌝ }
+{
+    if !face_known(value) {
+        return unknown_tag(room, &words[..], &reals[..]);
+    }
+    let front = ref_at(value, 0);
+    let back = ref_at(value, 2);
+    let surface = ref_at(value, 4);
+    let sense = sense_of(value[6]);
+    put_id(
+        insert_face(room, words, reals, front, back, surface, sense),
+        id,
+    )
+}
+
+pub fn loop_(
+    room: &[usize; 10],
+    words: &mut [u32],
+    reals: &mut [f64],
+    value: &[u32; 1],
+    id: &mut [u32; 1],
+) -> u32
+    ensures answer { λ r. ⌜ r ≡ insertedNumber (insertAnswer (now (room .entry)) (now (words .entry)) (now (reals .entry)) true 4) ⌝ }
+    ensures slots { λ _. ⌜ now (id .exit) ≡ insertedSlots (insertAnswer (now (room .entry)) (now (words .entry)) (now (reals .entry)) true 4) (now (id .entry)) ⌝ }
+    ensures tables { λ _. ⌜ now (words .exit) ≡ insertWords (now (room .entry)) (now (words .entry)) (now (reals .entry)) true 4 (loopGiven (now (value .entry))) ⌝ }
+    ensures floats { λ _. ⌜ now (reals .exit) ≡ insertReals (now (room .entry)) (now (words .entry)) (now (reals .entry)) true 4 [] ⌝ }
+{
+    put_id(insert_loop(room, words, reals, value[0]), id)
+}
+
+pub fn fin(
+    room: &[usize; 10],
+    words: &mut [u32],
+    reals: &mut [f64],
+    value: &[u32; 4],
+    id: &mut [u32; 1],
+) -> u32
+    ensures answer { λ r. ⌜ r ≡ insertedNumber (insertAnswer (now (room .entry)) (now (words .entry)) (now (reals .entry)) (finKnown (now (value .entry))) 5) ⌝ }
+    ensures slots { λ _. ⌜ now (id .exit) ≡ insertedSlots (insertAnswer (now (room .entry)) (now (words .entry)) (now (reals .entry)) (finKnown (now (value .entry))) 5) (now (id .entry)) ⌝ }
+    ensures tables { λ _. ⌜ now (words .exit) ≡ insertWords (now (room .entry)) (now (words .entry)) (now (reals .entry)) (finKnown (now (value .entry))) 5 (finGiven (now (value .entry))) ⌝ }
+    ensures floats { λ _. ⌜ now (reals .exit) ≡ insertReals (now (room .entry)) (now (words .entry)) (now (reals .entry)) (finKnown (now (value .entry))) 5 [] ⌝ }
+{
+    if !fin_known(value) {
+        return unknown_tag(room, &words[..], &reals[..]);
+    }
+    let sense = sense_of(value[2]);
+    put_id(
+        insert_fin(room, words, reals, value[0], value[1], sense, value[3] != 0),
+        id,
+    )
+}
+
+pub fn edge(
+    room: &[usize; 10],
+    words: &mut [u32],
+    reals: &mut [f64],
+    value: &[u32; 7],
+    floats: &[f64; 1],
+    id: &mut [u32; 1],
+) -> u32
+    ensures answer { λ r. ⌜ r ≡ insertedNumber (insertAnswer (now (room .entry)) (now (words .entry)) (now (reals .entry)) (edgeGood (now (value .entry)) (now (floats .entry))) 6) ⌝ }
+    ensures slots { λ _. ⌜ now (id .exit) ≡ insertedSlots (insertAnswer (now (room .entry)) (now (words .entry)) (now (reals .entry)) (edgeGood (now (value .entry)) (now (floats .entry))) 6) (now (id .entry)) ⌝ }
+    ensures tables { λ _. ⌜ now (words .exit) ≡ insertWords (now (room .entry)) (now (words .entry)) (now (reals .entry)) (edgeGood (now (value .entry)) (now (floats .entry))) 6 (edgeGiven (now (value .entry)) (now (floats .entry))) ⌝ }
+    ensures floats { λ _. ⌜ now (reals .exit) ≡ insertReals (now (room .entry)) (now (words .entry)) (now (reals .entry)) (edgeGood (now (value .entry)) (now (floats .entry))) 6 (edgeOwn (now (value .entry)) (now (floats .entry))) ⌝ }
+{
+    if !face_known(value) {
+        return unknown_tag(room, &words[..], &reals[..]);
+    }
+    let start = ref_at(value, 0);
+    let end = ref_at(value, 2);
+    let curve = ref_at(value, 4);
+    let tolerance = tolerance_of(value[6], floats[0]);
+    put_id(
+        insert_edge(room, words, reals, start, end, curve, tolerance),
+        id,
+    )
+}
+
+pub fn vertex(
+    room: &[usize; 10],
+    words: &mut [u32],
+    reals: &mut [f64],
+    value: &[u32; 1],
+    floats: &[f64; 4],
+    id: &mut [u32; 1],
+) -> u32
+    ensures answer { λ r. ⌜ r ≡ insertedNumber (insertAnswer (now (room .entry)) (now (words .entry)) (now (reals .entry)) (vertexGood (now (value .entry)) (now (floats .entry))) 7) ⌝ }
+    ensures slots { λ _. ⌜ now (id .exit) ≡ insertedSlots (insertAnswer (now (room .entry)) (now (words .entry)) (now (reals .entry)) (vertexGood (now (value .entry)) (now (floats .entry))) 7) (now (id .entry)) ⌝ }
+    ensures tables { λ _. ⌜ now (words .exit) ≡ insertWords (now (room .entry)) (now (words .entry)) (now (reals .entry)) (vertexGood (now (value .entry)) (now (floats .entry))) 7 (vertexGiven (now (value .entry)) (now (floats .entry))) ⌝ }
+    ensures floats { λ _. ⌜ now (reals .exit) ≡ insertReals (now (room .entry)) (now (words .entry)) (now (reals .entry)) (vertexGood (now (value .entry)) (now (floats .entry))) 7 (vertexOwn (now (value .entry)) (now (floats .entry))) ⌝ }
+{
+    if !own_known(value) {
+        return unknown_tag(room, &words[..], &reals[..]);
+    }
+    let point = point_of(floats);
+    let tolerance = tolerance_of(value[0], floats[3]);
+    put_id(insert_vertex(room, words, reals, point, tolerance), id)
+}
+
+pub fn curve(
+    room: &[usize; 10],
+    words: &mut [u32],
+    reals: &mut [f64],
+    value: &[u32; 1],
+    floats: &[f64; 6],
+    id: &mut [u32; 1],
+) -> u32
+    ensures answer { λ r. ⌜ r ≡ insertedNumber (insertAnswer (now (room .entry)) (now (words .entry)) (now (reals .entry)) (carrierKnown (now (value .entry))) 8) ⌝ }
+    ensures slots { λ _. ⌜ now (id .exit) ≡ insertedSlots (insertAnswer (now (room .entry)) (now (words .entry)) (now (reals .entry)) (carrierKnown (now (value .entry))) 8) (now (id .entry)) ⌝ }
+    ensures tables { λ _. ⌜ now (words .exit) ≡ insertWords (now (room .entry)) (now (words .entry)) (now (reals .entry)) (carrierKnown (now (value .entry))) 8 (carrierGiven (now (value .entry)) (now (floats .entry))) ⌝ }
+    ensures floats { λ _. ⌜ now (reals .exit) ≡ insertReals (now (room .entry)) (now (words .entry)) (now (reals .entry)) (carrierKnown (now (value .entry))) 8 (carrierOwn (now (value .entry)) (now (floats .entry))) ⌝ }
+{
+    if !carrier_known(value) {
+        return unknown_tag(room, &words[..], &reals[..]);
+    }
+    let carrier = carrier_of(value, floats);
+    put_id(insert_curve(room, words, reals, carrier), id)
+}
+
+pub fn surface(
+    room: &[usize; 10],
+    words: &mut [u32],
+    reals: &mut [f64],
+    value: &[u32; 1],
+    floats: &[f64; 6],
+    id: &mut [u32; 1],
+) -> u32
+    ensures answer { λ r. ⌜ r ≡ insertedNumber (insertAnswer (now (room .entry)) (now (words .entry)) (now (reals .entry)) (carrierKnown (now (value .entry))) 9) ⌝ }
+    ensures slots { λ _. ⌜ now (id .exit) ≡ insertedSlots (insertAnswer (now (room .entry)) (now (words .entry)) (now (reals .entry)) (carrierKnown (now (value .entry))) 9) (now (id .entry)) ⌝ }
+    ensures tables { λ _. ⌜ now (words .exit) ≡ insertWords (now (room .entry)) (now (words .entry)) (now (reals .entry)) (carrierKnown (now (value .entry))) 9 (carrierGiven (now (value .entry)) (now (floats .entry))) ⌝ }
+    ensures floats { λ _. ⌜ now (reals .exit) ≡ insertReals (now (room .entry)) (now (words .entry)) (now (reals .entry)) (carrierKnown (now (value .entry))) 9 (carrierOwn (now (value .entry)) (now (floats .entry))) ⌝ }
+{
+    if !carrier_known(value) {
+        return unknown_tag(room, &words[..], &reals[..]);
+    }
+    let carrier = carrier_of(value, floats);
+    put_id(insert_surface(room, words, reals, carrier), id)
+}

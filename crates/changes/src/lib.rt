@@ -1,0 +1,220 @@
+// Other fields in a record, as numbers; its lists are kept. A tag that is none gives 1, right after 9.
+use crossings::tags::body_known;
+use crossings::tags::carrier_known;
+use crossings::tags::face_known;
+use crossings::tags::fin_known;
+use crossings::tags::own_known;
+use crossings::tags::point_of;
+use crossings::tags::region_known;
+use crossings::tags::unknown_tag;
+use entity::records::carrier_of;
+use entity::records::kind_of;
+use entity::records::ref_at;
+use entity::records::sense_of;
+use entity::records::tolerance_of;
+use sets::set_body;
+use sets::set_curve;
+use sets::set_edge;
+use sets::set_face;
+use sets::set_fin;
+use sets::set_loop;
+use sets::set_region;
+use sets::set_shell;
+use sets::set_surface;
+use sets::set_vertex;
+ghost use mathlib.Core.Path.{_≡_};
+ghost use mathlib.Core.Bool.{true};
+ghost use mathlib.Core.List.{[]};
+ghost use Rattle.edits.specs.Answers.{editNumber, editWords, editReals};
+ghost use Rattle.crossings.specs.Given.{bodyKnown, regionKnown, faceKnown, finKnown, carrierKnown, edgeGood, vertexGood, bodyGiven, regionGiven, shellGiven, faceGiven, loopGiven, finGiven, edgeGiven, vertexGiven, carrierGiven, edgeOwn, vertexOwn, carrierOwn};
+
+pub fn body(
+    room: &[usize; 10],
+    words: &mut [u32],
+    reals: &mut [f64],
+    id: usize,
+    value: &[u32; 1],
+) -> u32
+    ensures answer { λ r. ⌜ r ≡ editNumber (now (room .entry)) (now (words .entry)) (now (reals .entry)) (bodyKnown (now (value .entry))) 0 id ⌝ }
+    ensures tables { λ _. ⌜ now (words .exit) ≡ editWords (now (room .entry)) (now (words .entry)) (now (reals .entry)) (bodyKnown (now (value .entry))) 0 id 0 (bodyGiven (now (value .entry))) ⌝ }
+    ensures floats { λ _. ⌜ now (reals .exit) ≡ editReals (now (room .entry)) (now (words .entry)) (now (reals .entry)) (bodyKnown (now (value .entry))) 0 id [] ⌝ }
+{
+    if !body_known(value) {
+        return unknown_tag(room, &words[..], &reals[..]);
+    }
+    let kind = kind_of(value[0]);
+    set_body(room, words, reals, id, kind)
+}
+
+pub fn region(
+    room: &[usize; 10],
+    words: &mut [u32],
+    reals: &mut [f64],
+    id: usize,
+    value: &[u32; 2],
+) -> u32
+    ensures answer { λ r. ⌜ r ≡ editNumber (now (room .entry)) (now (words .entry)) (now (reals .entry)) (regionKnown (now (value .entry))) 1 id ⌝ }
+    ensures tables { λ _. ⌜ now (words .exit) ≡ editWords (now (room .entry)) (now (words .entry)) (now (reals .entry)) (regionKnown (now (value .entry))) 1 id 0 (regionGiven (now (value .entry))) ⌝ }
+    ensures floats { λ _. ⌜ now (reals .exit) ≡ editReals (now (room .entry)) (now (words .entry)) (now (reals .entry)) (regionKnown (now (value .entry))) 1 id [] ⌝ }
+{
+    if !region_known(value) {
+        return unknown_tag(room, &words[..], &reals[..]);
+    }
+    set_region(room, words, reals, id, value[0], value[1] != 0)
+}
+
+pub fn shell(
+    room: &[usize; 10],
+    words: &mut [u32],
+    reals: &mut [f64],
+    id: usize,
+    value: &[u32; 1],
+) -> u32
+    ensures answer { λ r. ⌜ r ≡ editNumber (now (room .entry)) (now (words .entry)) (now (reals .entry)) true 2 id ⌝ }
+    ensures tables { λ _. ⌜ now (words .exit) ≡ editWords (now (room .entry)) (now (words .entry)) (now (reals .entry)) true 2 id 0 (shellGiven (now (value .entry))) ⌝ }
+    ensures floats { λ _. ⌜ now (reals .exit) ≡ editReals (now (room .entry)) (now (words .entry)) (now (reals .entry)) true 2 id [] ⌝ }
+{
+    set_shell(room, words, reals, id, value[0])
+}
+
+pub fn face(
+    room: &[usize; 10],
+    words: &mut [u32],
+    reals: &mut [f64],
+    id: usize,
+    value: &[u32; 7],
+) -> u32
+    ensures answer { λ r. ⌜ r ≡ editNumber (now (room .entry)) (now (words .entry)) (now (reals .entry)) (faceKnown (now (value .entry))) 3 id ⌝ }
+    ensures tables { λ _. ⌜ now (words .exit) ≡ editWords (now (room .entry)) (now (words .entry)) (now (reals .entry)) (faceKnown (now (value .entry))) 3 id 0 (faceGiven (now (value .entry))) ⌝ }
+    ensures floats { λ _. ⌜ now (reals .exit) ≡ editReals (now (room .entry)) (now (words .entry)) (now (reals .entry)) (faceKnown (now (value .entry))) 3 id [] ⌝ }
+{
+    if !face_known(value) {
+        return unknown_tag(room, &words[..], &reals[..]);
+    }
+    let front = ref_at(value, 0);
+    let back = ref_at(value, 2);
+    let surface = ref_at(value, 4);
+    let sense = sense_of(value[6]);
+    set_face(room, words, reals, id, front, back, surface, sense)
+}
+
+pub fn loop_(
+    room: &[usize; 10],
+    words: &mut [u32],
+    reals: &mut [f64],
+    id: usize,
+    value: &[u32; 1],
+) -> u32
+    ensures answer { λ r. ⌜ r ≡ editNumber (now (room .entry)) (now (words .entry)) (now (reals .entry)) true 4 id ⌝ }
+    ensures tables { λ _. ⌜ now (words .exit) ≡ editWords (now (room .entry)) (now (words .entry)) (now (reals .entry)) true 4 id 0 (loopGiven (now (value .entry))) ⌝ }
+    ensures floats { λ _. ⌜ now (reals .exit) ≡ editReals (now (room .entry)) (now (words .entry)) (now (reals .entry)) true 4 id [] ⌝ }
+{
+    set_loop(room, words, reals, id, value[0])
+}
+
+pub fn fin(
+    room: &[usize; 10],
+    words: &mut [u32],
+    reals: &mut [f64],
+    id: usize,
+    value: &[u32; 4],
+) -> u32
+    ensures answer { λ r. ⌜ r ≡ editNumber (now (room .entry)) (now (words .entry)) (now (reals .entry)) (finKnown (now (value .entry))) 5 id ⌝ }
+    ensures tables { λ _. ⌜ now (words .exit) ≡ editWords (now (room .entry)) (now (words .entry)) (now (reals .entry)) (finKnown (now (value .entry))) 5 id 0 (finGiven (now (value .entry))) ⌝ }
+    ensures floats { λ _. ⌜ now (reals .exit) ≡ editReals (now (room .entry)) (now (words .entry)) (now (reals .entry)) (finKnown (now (value .entry))) 5 id [] ⌝ }
+{
+    if !fin_known(value) {
+        return unknown_tag(room, &words[..], &reals[..]);
+    }
+    let sense = sense_of(value[2]);
+    set_fin(
+        room,
+        words,
+        reals,
+        id,
+        value[0],
+        value[1],
+        sense,
+        value[3] != 0,
+    )
+}
+
+pub fn edge(
+    room: &[usize; 10],
+    words: &mut [u32],
+    reals: &mut [f64],
+    id: usize,
+    value: &[u32; 7],
+    floats: &[f64; 1],
+) -> u32
+    ensures answer { λ r. ⌜ r ≡ editNumber (now (room .entry)) (now (words .entry)) (now (reals .entry)) (edgeGood (now (value .entry)) (now (floats .entry))) 6 id ⌝ }
+    ensures tables { λ _. ⌜ now (words .exit) ≡ editWords (now (room .entry)) (now (words .entry)) (now (reals .entry)) (edgeGood (now (value .entry)) (now (floats .entry))) 6 id 0 (edgeGiven (now (value .entry)) (now (floats .entry))) ⌝ }
+    ensures floats { λ _. ⌜ now (reals .exit) ≡ editReals (now (room .entry)) (now (words .entry)) (now (reals .entry)) (edgeGood (now (value .entry)) (now (floats .entry))) 6 id (edgeOwn (now (value .entry)) (now (floats .entry))) ⌝ }
+{
+    if !face_known(value) {
+        return unknown_tag(room, &words[..], &reals[..]);
+    }
+    let start = ref_at(value, 0);
+    let end = ref_at(value, 2);
+    let curve = ref_at(value, 4);
+    let tolerance = tolerance_of(value[6], floats[0]);
+    set_edge(room, words, reals, id, start, end, curve, tolerance)
+}
+
+pub fn vertex(
+    room: &[usize; 10],
+    words: &mut [u32],
+    reals: &mut [f64],
+    id: usize,
+    value: &[u32; 1],
+    floats: &[f64; 4],
+) -> u32
+    ensures answer { λ r. ⌜ r ≡ editNumber (now (room .entry)) (now (words .entry)) (now (reals .entry)) (vertexGood (now (value .entry)) (now (floats .entry))) 7 id ⌝ }
+    ensures tables { λ _. ⌜ now (words .exit) ≡ editWords (now (room .entry)) (now (words .entry)) (now (reals .entry)) (vertexGood (now (value .entry)) (now (floats .entry))) 7 id 0 (vertexGiven (now (value .entry)) (now (floats .entry))) ⌝ }
+    ensures floats { λ _. ⌜ now (reals .exit) ≡ editReals (now (room .entry)) (now (words .entry)) (now (reals .entry)) (vertexGood (now (value .entry)) (now (floats .entry))) 7 id (vertexOwn (now (value .entry)) (now (floats .entry))) ⌝ }
+{
+    if !own_known(value) {
+        return unknown_tag(room, &words[..], &reals[..]);
+    }
+    let point = point_of(floats);
+    let tolerance = tolerance_of(value[0], floats[3]);
+    set_vertex(room, words, reals, id, point, tolerance)
+}
+
+pub fn curve(
+    room: &[usize; 10],
+    words: &mut [u32],
+    reals: &mut [f64],
+    id: usize,
+    value: &[u32; 1],
+    floats: &[f64; 6],
+) -> u32
+    ensures answer { λ r. ⌜ r ≡ editNumber (now (room .entry)) (now (words .entry)) (now (reals .entry)) (carrierKnown (now (value .entry))) 8 id ⌝ }
+    ensures tables { λ _. ⌜ now (words .exit) ≡ editWords (now (room .entry)) (now (words .entry)) (now (reals .entry)) (carrierKnown (now (value .entry))) 8 id 0 (carrierGiven (now (value .entry)) (now (floats .entry))) ⌝ }
+    ensures floats { λ _. ⌜ now (reals .exit) ≡ editReals (now (room .entry)) (now (words .entry)) (now (reals .entry)) (carrierKnown (now (value .entry))) 8 id (carrierOwn (now (value .entry)) (now (floats .entry))) ⌝ }
+{
+    if !carrier_known(value) {
+        return unknown_tag(room, &words[..], &reals[..]);
+    }
+    let carrier = carrier_of(value, floats);
+    set_curve(room, words, reals, id, carrier)
+}
+
+pub fn surface(
+    room: &[usize; 10],
+    words: &mut [u32],
+    reals: &mut [f64],
+    id: usize,
+    value: &[u32; 1],
+    floats: &[f64; 6],
+) -> u32
+    ensures answer { λ r. ⌜ r ≡ editNumber (now (room .entry)) (now (words .entry)) (now (reals .entry)) (carrierKnown (now (value .entry))) 9 id ⌝ }
+    ensures tables { λ _. ⌜ now (words .exit) ≡ editWords (now (room .entry)) (now (words .entry)) (now (reals .entry)) (carrierKnown (now (value .entry))) 9 id 0 (carrierGiven (now (value .entry)) (now (floats .entry))) ⌝ }
+    ensures floats { λ _. ⌜ now (reals .exit) ≡ editReals (now (room .entry)) (now (words .entry)) (now (reals .entry)) (carrierKnown (now (value .entry))) 9 id (carrierOwn (now (value .entry)) (now (floats .entry))) ⌝ }
+{
+    if !carrier_known(value) {
+        return unknown_tag(room, &words[..], &reals[..]);
+    }
+    let carrier = carrier_of(value, floats);
+    set_surface(room, words, reals, id, carrier)
+}

@@ -1,0 +1,105 @@
+-- Which fields the numbers name that a C program hands to an insert or a set: the numbers of `Crossing.antt`, without the lists. Definitions only.
+-- A tag that is none is refused with 1, right after 9, as a tolerance that no record may have.
+use Prim.Native.Nat.{ℕ, zero, suc}
+use mathlib.Core.Bool.{Bool, _&&_}
+use mathlib.Core.List.{List}
+use lib.Dec.{leb}
+use lib.Ieee.{Float}
+use Rattle.geometry.specs.Refuse.{_unless_, _then_}
+use Rattle.geometry.specs.declared.tolerance.Tolerance.{Tolerance}
+use Rattle.meaning.specs.Edits.{toleranceOk}
+use Rattle.model.specs.Layout.{word, real}
+use Rattle.model.specs.Decode.{maybeAt, flagAt, senseOf, kindOf, toleranceOf, pointAt, carrierOf}
+use Rattle.model.specs.Readable.{readable}
+use Rattle.entity.specs.declared.records.Ref.{Ref}
+use Rattle.lookup.specs.declared.EntityRef.{EntityRef}
+use Rattle.lookup.specs.declared.EntityRef.the-variants as Entities
+use Rattle.entity.specs.Seen.{seenRef, seenKind, seenSense}
+use Rattle.fields.specs.Fields.{bodyFields, regionFields, shellFields, faceFields, loopFields, finFields, edgeFields, vertexFields, carrierFields, edgeFloats, vertexFloats, carrierFloats}
+
+-- a tag that is none: "Every call tests 9 first"
+unfoldable pub tagNumber : List ℕ → List ℕ → List Float → ℕ
+tagNumber room w x = 9 unless readable room w x then 1
+
+-- ---- the tags of a value v are known; and an own tolerance, among the floats s, is one that a record may have
+
+abbrev pub bodyKnown : List ℕ → Bool
+bodyKnown v = leb (word v 0) 4
+
+abbrev pub regionKnown : List ℕ → Bool
+regionKnown v = leb (word v 1) 1
+
+abbrev pub faceKnown : List ℕ → Bool
+faceKnown v = leb (word v 0) 1 && leb (word v 2) 1 && leb (word v 4) 1 && leb (word v 6) 1
+
+abbrev pub finKnown : List ℕ → Bool
+finKnown v = leb (word v 2) 1 && leb (word v 3) 1
+
+abbrev pub ownKnown : List ℕ → Bool
+ownKnown v = leb (word v 0) 1
+
+abbrev pub carrierKnown : List ℕ → Bool
+carrierKnown v = leb (word v 0) 2
+
+-- the tolerance of an edge, and of a vertex
+abbrev pub edgeTolerance : List ℕ → List Float → Tolerance
+edgeTolerance v s = toleranceOf (word v 6) (real s 0)
+
+abbrev pub vertexTolerance : List ℕ → List Float → Tolerance
+vertexTolerance v s = toleranceOf (word v 0) (real s 3)
+
+unfoldable pub edgeGood : List ℕ → List Float → Bool
+edgeGood v s = faceKnown v && toleranceOk (edgeTolerance v s)
+
+unfoldable pub vertexGood : List ℕ → List Float → Bool
+vertexGood v s = ownKnown v && toleranceOk (vertexTolerance v s)
+
+-- ---- the fields, as `model` reads them off a record's words and floats
+
+abbrev pub bodyGiven : List ℕ → List ℕ
+bodyGiven v = bodyFields (seenKind (kindOf (word v 0)))
+
+abbrev pub regionGiven : List ℕ → List ℕ
+regionGiven v = regionFields (word v 0) (flagAt v 1)
+
+abbrev pub shellGiven : List ℕ → List ℕ
+shellGiven v = shellFields (word v 0)
+
+abbrev pub faceGiven : List ℕ → List ℕ
+faceGiven v = faceFields (seenRef (maybeAt v 0)) (seenRef (maybeAt v 2)) (seenRef (maybeAt v 4)) (seenSense (senseOf (word v 6)))
+
+abbrev pub loopGiven : List ℕ → List ℕ
+loopGiven v = loopFields (word v 0)
+
+abbrev pub finGiven : List ℕ → List ℕ
+finGiven v = finFields (word v 0) (word v 1) (seenSense (senseOf (word v 2))) (flagAt v 3)
+
+abbrev pub edgeGiven : List ℕ → List Float → List ℕ
+edgeGiven v s = edgeFields (seenRef (maybeAt v 0)) (seenRef (maybeAt v 2)) (seenRef (maybeAt v 4)) (edgeTolerance v s)
+
+abbrev pub vertexGiven : List ℕ → List Float → List ℕ
+vertexGiven v s = vertexFields (vertexTolerance v s)
+
+abbrev pub carrierGiven : List ℕ → List Float → List ℕ
+carrierGiven v s = carrierFields (carrierOf v s)
+
+-- and the floats
+abbrev pub edgeOwn : List ℕ → List Float → List Float
+edgeOwn v s = edgeFloats (edgeTolerance v s)
+
+abbrev pub vertexOwn : List ℕ → List Float → List Float
+vertexOwn v s = vertexFloats (pointAt s 0) (vertexTolerance v s)
+
+abbrev pub carrierOwn : List ℕ → List Float → List Float
+carrierOwn v s = carrierFloats (carrierOf v s)
+
+-- ---- an entity by its class, which is the number of its table
+abbrev pub entityOf : ℕ → ℕ → EntityRef
+entityOf zero i = Entities.Body i
+entityOf (suc zero) i = Entities.Region i
+entityOf (suc (suc zero)) i = Entities.Shell i
+entityOf (suc (suc (suc zero))) i = Entities.Face i
+entityOf (suc (suc (suc (suc zero)))) i = Entities.Loop i
+entityOf (suc (suc (suc (suc (suc zero))))) i = Entities.Fin i
+entityOf (suc (suc (suc (suc (suc (suc zero)))))) i = Entities.Edge i
+entityOf (suc (suc (suc (suc (suc (suc (suc n))))))) i = Entities.Vertex i

@@ -1,0 +1,3 @@
+// What crosses between the calls and a C program: a record's numbers, and the fields that numbers name.
+pub mod tags;
+pub mod values;
