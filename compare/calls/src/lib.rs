@@ -4,6 +4,7 @@ pub mod edits;
 pub mod layout;
 pub mod operations;
 pub mod ours;
+pub mod queries;
 pub mod spoil;
 pub mod tally;
 pub mod walks;

@@ -107,7 +107,7 @@ macro_rules! lookups {
 
 /// What the slots hold before a call; no answer of the runs has it.
 pub const UNTOUCHED: u32 = 0xdead_beef;
-const UNTOUCHED_REAL: f64 = -1.2345e-210;
+pub const UNTOUCHED_REAL: f64 = -1.2345e-210;
 
 /// Not a number of 01: a refused call has written into its slots.
 pub const WROTE: u32 = 1000;
@@ -115,7 +115,8 @@ pub const WROTE: u32 = 1000;
 /// Nor this: an insert has given another id than the next.
 pub const WRONG_ID: u32 = 1001;
 
-fn answer<T>(number: u32, value: T, untouched: bool) -> Result<T, u32> {
+/// The value, or the refusal's number where the slots are as they were.
+pub fn answer<T>(number: u32, value: T, untouched: bool) -> Result<T, u32> {
     match (number, untouched) {
         (0, _) => Ok(value),
         (_, true) => Err(number),

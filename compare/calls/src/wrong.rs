@@ -3,7 +3,9 @@
 
 use models::plain::Carrier;
 
+use crate::layout::Lent;
 use crate::operations::{Operation, Record};
+use crate::queries::Query;
 
 /// What a wrong station is, and what it does in the place of an operation; none where it does that one.
 pub type Wrong = (&'static str, fn(&Operation) -> Option<Operation>);
@@ -96,4 +98,60 @@ pub const WRONGS: [Wrong; 14] = [
             _ => None,
         },
     ),
+];
+
+/// What a wrong station is, and what it answers in the place of a right answer.
+pub type Misled = (&'static str, fn(&Lent, Query, &[u64]) -> Option<Vec<u64>>);
+
+/// Whether a fin that is there runs against its edge.
+fn negative(lent: &Lent, fin: usize) -> bool {
+    lent.words[lent.word_at(5, fin) + 2] != 0
+}
+
+pub const MISLED: [Misled; 10] = [
+    ("does not turn the ends of a negative fin", |lent, query, given| match (query, given) {
+        (Query::Ends(fin), [0, a, b]) if negative(lent, fin) => Some(vec![0, *b, *a]),
+        _ => None,
+    }),
+    ("gives the start twice", |_, query, given| match (query, given) {
+        (Query::Ends(_), [0, a, _]) => Some(vec![0, *a, *a]),
+        _ => None,
+    }),
+    ("gives vertex 0 for an end that is none", |_, query, given| match (query, given) {
+        (Query::Ends(_), [0, a, b]) => Some(vec![0, (*a).max(1), (*b).max(1)]),
+        _ => None,
+    }),
+    ("gives ends of a fin whose edge is missing", |lent, query, given| match (query, given) {
+        (Query::Ends(fin), [2]) if fin < lent.words[5] as usize => Some(vec![0, 0, 0]),
+        _ => None,
+    }),
+    ("gives the bounds turned", |_, query, given| match (query, given) {
+        (Query::Bounds(_), [0, lo, hi]) => Some(vec![0, *hi, *lo]),
+        _ => None,
+    }),
+    ("gives bounds from 0 on", |_, query, given| match (query, given) {
+        (Query::Bounds(_), [0, lo, hi]) => {
+            let length = f64::from_bits(*hi) - f64::from_bits(*lo);
+            Some(vec![0, 0, length.to_bits()])
+        }
+        _ => None,
+    }),
+    ("gives bounds that are one float off", |_, query, given| match (query, given) {
+        (Query::Bounds(_), [0, lo, hi]) => Some(vec![0, *lo, f64::from_bits(*hi).next_up().to_bits()]),
+        _ => None,
+    }),
+    ("gives 7 for an edge that does not run along its line", |_, query, given| match (query, given) {
+        (Query::Bounds(_), [4]) => Some(vec![7]),
+        _ => None,
+    }),
+    ("gives 2 for an edge without a curve", |_, query, given| match (query, given) {
+        (Query::Bounds(_), [1]) => Some(vec![2]),
+        _ => None,
+    }),
+    ("holds one record more than there are", |lent, query, given| match (query, given) {
+        (Query::Contains(class, id), [0, 0]) if id == lent.words[class as usize] as usize => {
+            Some(vec![0, 1])
+        }
+        _ => None,
+    }),
 ];

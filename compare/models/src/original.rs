@@ -458,6 +458,20 @@ pub fn bounds(model: &Model, names: &Names, edge: usize) -> Told {
     })
 }
 
+/// Whether an entity exists, by its class, which is the number of its table.
+pub fn contains(model: &Model, names: &Names, class: u32, id: usize) -> bool {
+    model.contains(match class {
+        0 => EntityRef::Body(names.bodies[id]),
+        1 => EntityRef::Region(names.regions[id]),
+        2 => EntityRef::Shell(names.shells[id]),
+        3 => EntityRef::Face(names.faces[id]),
+        4 => EntityRef::Loop(names.loops[id]),
+        5 => EntityRef::Fin(names.fins[id]),
+        6 => EntityRef::Edge(names.edges[id]),
+        _ => EntityRef::Vertex(names.vertices[id]),
+    })
+}
+
 /// The model is changed where the split is accepted.
 pub fn split(model: &mut Model, names: &Names, edge: usize, fraction: f64) -> Told {
     told(split_line_edge(model, names.edges[edge], fraction), |s| {

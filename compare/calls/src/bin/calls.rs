@@ -1,15 +1,17 @@
-//! Random models in the Rust and in lent memory, compared: `calls [models] [seed]`. The exit status is
-//! 1 where anything differs.
+//! Random models in the Rust and in lent memory, compared: `calls [models] [seed]`; `calls asked ..` for
+//! the questions alone, on models laid out with none of the calls. The exit status is 1 where anything
+//! differs.
 
 use std::env;
 use std::process::ExitCode;
 
 use calls::layout::{LARGEST, LISTS, Lent};
 use calls::operations::{Operation, Record, sequence};
+use calls::queries::Query;
 use calls::spoil::spoil;
 use calls::tally::Tally;
 use calls::walks::Walk;
-use calls::wrong::{WRONGS, Wrong};
+use calls::wrong::{MISLED, Misled, WRONGS, Wrong};
 use gensolid_topo::Model;
 use models::original::{self, Names};
 use models::plain::Plain;
@@ -186,6 +188,57 @@ fn walks(tally: &mut Tally, names: &Names, model: &Model, lent: &Lent, random: &
     }
 }
 
+/// Questions about single records: fins and edges near the damages, others, and some that are missing.
+fn queries(
+    tally: &mut Tally,
+    names: &Names,
+    made: &Made,
+    lent: &Lent,
+    random: &mut Random,
+    misled: Option<&Misled>,
+) {
+    let used = made.plain.used();
+    let mut questions: Vec<Query> = made.near.iter().map(|&edge| Query::Bounds(edge)).collect();
+    for _ in 0..8 {
+        questions.push(Query::Ends(random.below(used[5] + 1)));
+        questions.push(Query::Bounds(random.below(used[6] + 1)));
+        let class = random.below(8);
+        questions.push(Query::Contains(class as u32, random.below(used[class] + 2)));
+    }
+    for &edge in &made.near {
+        let fins = made.plain.edges.get(edge).map_or(&[][..], |edge| &edge.fins);
+        questions.extend(fins.iter().filter(|&&fin| fin <= used[5]).map(|&fin| Query::Ends(fin)));
+    }
+    for query in questions {
+        let (expected, words) = match query {
+            Query::Ends(fin) => {
+                let told = original::ends(&made.model, names, fin);
+                (told.numbers, told.words)
+            }
+            Query::Bounds(edge) => {
+                let told = original::bounds(&made.model, names, edge);
+                (told.numbers, told.words)
+            }
+            Query::Contains(class, id) => {
+                let yes = original::contains(&made.model, names, class, id);
+                (vec![0, yes.into()], format!("{yes}"))
+            }
+        };
+        tally.met(query.name(), words);
+        let ours = query.ours(lent);
+        let given = misled.and_then(|misled| misled.1(lent, query, &ours));
+        tally.same(query.name(), &expected, &given.unwrap_or(ours), || {
+            format!("{query:?}")
+        });
+    }
+    // A class that is none, which the Rust's types rule out.
+    let class = random.pick(&[8, 9, u32::MAX]);
+    let given = Query::Contains(class, random.below(3)).ours(lent);
+    tally.same("a class that is none", &vec![1], &given, || {
+        format!("class {class}")
+    });
+}
+
 /// Records, lists and places that are not there.
 fn missing(tally: &mut Tally, plain: &Plain, lent: &Lent, random: &mut Random) {
     let used = plain.used();
@@ -226,6 +279,10 @@ fn unreadable(tally: &mut Tally, lent: &Lent, random: &mut Random) {
     let mut numbers = spoiled.refusals(id).to_vec();
     numbers.extend(spoiled.precision().err().or(Some(0)));
     numbers.extend(spoiled.entry(random.below(9), id, 0).err().or(Some(0)));
+    let class = random.below(9) as u32;
+    for query in [Query::Ends(id), Query::Bounds(id), Query::Contains(class, id)] {
+        numbers.push(query.ours(&spoiled)[0] as u32);
+    }
     // A room above the largest asks for more marks than there can be.
     if spoiled.room.iter().zip(LARGEST).all(|(&n, most)| n <= most) {
         let which = random.below(3);
@@ -276,28 +333,73 @@ fn wrongs(count: u64, seed: u64) -> ExitCode {
             println!("a station that {}: seen on model {number}", wrong.0);
         }
     }
-    println!("{} wrong stations, {unseen} not seen", WRONGS.len());
+    for misled in &MISLED {
+        let mut tally = Tally::quiet();
+        let mut number = 0;
+        while (tally.models as u64) < count && tally.differing() == 0 {
+            number += 1;
+            asked(&mut tally, &names, seed, number, Some(misled));
+        }
+        if tally.differing() == 0 {
+            println!("a station that {}: not seen on {count} models", misled.0);
+            unseen += 1;
+        } else {
+            println!("a station that {}: seen on model {number}", misled.0);
+        }
+    }
+    let stations = WRONGS.len() + MISLED.len();
+    println!("{stations} wrong stations, {unseen} not seen");
     ExitCode::from(u8::from(unseen > 0))
+}
+
+/// The questions about one model, laid out with none of the calls.
+fn asked(tally: &mut Tally, names: &Names, seed: u64, number: u64, misled: Option<&Misled>) {
+    let Some(made) = made(names, Sort::Several, seed, number, None) else {
+        return;
+    };
+    tally.begin(format!(
+        "model {number} of seed {seed}: {}",
+        made.told.join("; ")
+    ));
+    let mut random = Random::new(seed, number, 300);
+    let room = room(&made.plain, &mut random);
+    let noise = (random.bits() as u32, f64::from_bits(random.bits()));
+    let lent = Lent::holding(&made.plain, room, noise.0, noise.1);
+    queries(tally, names, &made, &lent, &mut random, misled);
 }
 
 fn main() -> ExitCode {
     let words: Vec<String> = env::args().skip(1).collect();
-    let (wrong, numbers) = match words.split_first() {
-        Some((first, rest)) if first == "wrong" => (true, rest),
-        _ => (false, &words[..]),
+    let (mode, numbers) = match words.split_first() {
+        Some((first, rest)) if first == "wrong" || first == "asked" => (first.as_str(), rest),
+        _ => ("", &words[..]),
     };
     let numbers: Result<Vec<u64>, _> = numbers.iter().map(|a| a.parse()).collect();
-    match numbers.as_deref() {
-        Ok([]) if wrong => wrongs(1000, 1),
-        Ok([count, seed]) if wrong => wrongs(*count, *seed),
-        Ok([]) => compare(20_000, 1),
-        Ok([count]) if !wrong => compare(*count, 1),
-        Ok([count, seed]) => compare(*count, *seed),
+    match (mode, numbers.as_deref()) {
+        ("wrong", Ok([])) => wrongs(1000, 1),
+        ("wrong", Ok([count, seed])) => wrongs(*count, *seed),
+        ("asked", Ok([])) => questions(200_000, 1),
+        ("asked", Ok([count])) => questions(*count, 1),
+        ("asked", Ok([count, seed])) => questions(*count, *seed),
+        ("", Ok([])) => compare(20_000, 1),
+        ("", Ok([count])) => compare(*count, 1),
+        ("", Ok([count, seed])) => compare(*count, *seed),
         _ => {
-            eprintln!("usage: calls [wrong] [models] [seed]");
+            eprintln!("usage: calls [wrong | asked] [models] [seed]");
             ExitCode::from(2)
         }
     }
+}
+
+fn questions(count: u64, seed: u64) -> ExitCode {
+    let names = Names::new();
+    let mut tally = Tally::default();
+    let mut number = 0;
+    while (tally.models as u64) < count {
+        number += 1;
+        asked(&mut tally, &names, seed, number, None);
+    }
+    tally.end()
 }
 
 fn compare(count: u64, seed: u64) -> ExitCode {
@@ -328,6 +430,7 @@ fn compare(count: u64, seed: u64) -> ExitCode {
         beyond(&mut tally, plain, &mut lent);
         missing(&mut tally, plain, &lent, &mut random);
         walks(&mut tally, &names, &made.model, &lent, &mut random);
+        queries(&mut tally, &names, &made, &lent, &mut random, None);
         unreadable(&mut tally, &lent, &mut random);
         // The same model laid out with none of the calls, and noise around it.
         let noise = (random.bits() as u32, f64::from_bits(random.bits()));
