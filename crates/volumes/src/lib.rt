@@ -1,0 +1,83 @@
+// `body_volume` of inquire.rs. specs/Answers.antt says what it answers.
+use bounds::refusals::then;
+use bounds::refusals::unless;
+use marks::clear;
+use model::entries::list;
+use model::layout::words_of;
+use polyhedral::polyhedral_refusal;
+use tallies::Tally;
+use tallies::regions_tally;
+ghost use mathlib.Core.Path.{_≡_};
+ghost use Prim.Native.Nat.{_<_};
+ghost use lib.ListN.{length, replicate};
+ghost use Rattle.meaning.specs.Model.{body};
+ghost use Rattle.meaning.specs.Inquire.{isSolid};
+ghost use Rattle.model.specs.Layout.{word};
+ghost use Rattle.model.specs.Decode.{decode, kindOf};
+ghost use Rattle.model.specs.Fit.{Fit};
+ghost use Rattle.paths.specs.Paths.{Edged};
+ghost use Rattle.volumes.specs.Answers.{volumeAnswer};
+ghost use Rattle.volumes.specs.Told.{toldVolume, solidVolume};
+
+// The volume, or the refusal's number.
+pub enum Volume {
+    Is(f64),
+    Refused(u32),
+}
+
+// By a body's tag: is it solid?
+fn is_solid(tag: u32) -> bool
+    ensures { λ r. ⌜ r ≡ isSolid (kindOf tag) ⌝ }
+{
+    match tag {
+        0 => false,
+        1 => false,
+        2 => false,
+        3 => true,
+        _ => false,
+    }
+}
+
+// The sum, unless a side is refused or there is none: 4.
+fn told(t: Tally) -> Volume
+    ensures { λ r. ⌜ r ≡ toldVolume t ⌝ }
+{
+    let n = then(t.refused, unless(4, !t.empty));
+    if n != 0 {
+        return Volume::Refused(n);
+    }
+    Volume::Is(t.volume)
+}
+
+// The volume of a body whose walks are not refused; not solid 6.
+fn solid_volume(room: &[usize; 10], words: &[u32], reals: &[f64], body: usize) -> Volume
+    requires { ⌜ Fit (now room) (now words) (now reals) ⌝ }
+    requires { ⌜ Edged (now room) (now words) body ⌝ }
+    ensures { λ r. ⌜ r ≡ solidVolume (decode (now (room .entry)) (now (words .entry)) (now (reals .entry))) body ⌝ }
+{
+    let w = words_of(room, words, 0, body);
+    if !is_solid(w[0]) {
+        return Volume::Refused(6);
+    }
+    told(regions_tally(room, words, reals, list(room, words, 0, body)))
+}
+
+// The volume of a body's solid regions. `faces` are seen marks.
+pub fn body_volume(
+    room: &[usize; 10],
+    words: &[u32],
+    reals: &[f64],
+    body: usize,
+    faces: &mut [u8],
+) -> Volume
+    ensures answer { λ r. ⌜ r ≡ volumeAnswer (now (room .entry)) (now (words .entry)) (now (reals .entry)) body (now (faces .entry)) ⌝ }
+    ensures faces { λ _. ⌜ now (faces .exit) ≡ replicate (length (now (faces .entry))) 0 ⌝ }
+{
+    let enough = room[3] <= faces.len();
+    clear(faces);
+    let n = polyhedral_refusal(room, words, reals, enough, body, faces);
+    if n != 0 {
+        return Volume::Refused(n);
+    }
+    solid_volume(room, words, reals, body)
+}
