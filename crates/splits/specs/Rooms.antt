@@ -156,7 +156,7 @@ module _ (room w : List ℕ) (x : List Float) (e : ℕ) (t : Float) (a : Accepte
     unfolding loopTest ownedBy finWord
     together h = bound-of (finWord room w 0) (λ n. length (listOf room w 6 n) + countIf (λ i. eqb (finWord room w 0 i) n) fins′) 1024 l fins′ (tests .1) h
 
-    loop-fits : length (joined new entries) ≤ 1024
+    pub loop-fits : length (joined new entries) ≤ 1024
     loop-fits =
         let b = loop-length in
         let g = gained in
@@ -182,7 +182,7 @@ module _ (room w : List ℕ) (x : List Float) (e : ℕ) (t : Float) (a : Accepte
         go true = refl
         go false = refl
 
-    shell-fits : length (joined new-wire wires) ≤ 256
+    pub shell-fits : length (joined new-wire wires) ≤ 256
     unfolding wireTest
     shell-fits =
         let b = joined-length new-wire (λ i. eqb e i) wires wire-length in

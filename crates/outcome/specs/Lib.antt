@@ -1,0 +1,5 @@
+pub mod Reads
+pub mod Fields
+pub mod Same
+pub mod Stays
+pub mod Statements

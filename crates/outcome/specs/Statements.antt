@@ -1,0 +1,67 @@
+-- What `split_line_edge` does to the model that the lent memory holds. Assumes nothing.
+use Prim.Native.Nat.{ℕ, zero, suc}
+use mathlib.Core.Path.{_≡_, refl, _∙_}
+use mathlib.Core.Bool.{true}
+use mathlib.Core.List.{List}
+use lib.Ieee.{Float}
+use Rattle.meaning.specs.Model.{Model, Table}
+use Rattle.meaning.specs.Split.{splitRefusal, afterSplit, whereAccepted, modelAfter}
+use Rattle.model.specs.Decode.{decode}
+use Rattle.model.specs.Readable.{readable}
+use Rattle.frame.specs.Change.{SameTable, SameModel}
+use Rattle.frame.specs.Kept.{readable-of}
+use Rattle.cuts.specs.Rows.{limits, splitNumber}
+use Rattle.splits.specs.After.{splitWords, splitReals}
+use Rattle.splits.specs.Rooms.{accepted}
+use Rattle.outcome.specs.Same.{model-split}
+use Rattle.outcome.specs.Stays.{fit-split}
+
+-- the words w′ and the floats x′ are readable, and hold the model m
+pub record Holds (room w′ : List ℕ) (x′ : List Float) (m : Model) : Type 0 where
+  pub readable : readable room w′ x′ ≡ true
+  pub model : SameModel (decode room w′ x′) m
+
+same-table : {A : Type 0} (t : Table A) → SameTable t t
+same-table t = record { used = refl; slots = λ i h. refl }
+
+same-model : (m : Model) → SameModel m m
+same-model m =
+    record {
+      precision = refl;
+      bodies = same-table (m .bodies);
+      regions = same-table (m .regions);
+      shells = same-table (m .shells);
+      faces = same-table (m .faces);
+      loops = same-table (m .loops);
+      fins = same-table (m .fins);
+      edges = same-table (m .edges);
+      vertices = same-table (m .vertices);
+      curves = same-table (m .curves);
+      surfaces = same-table (m .surfaces);
+    }
+
+module _ (room w : List ℕ) (x : List Float) (e : ℕ) (t : Float) where
+  -- an accepted split leaves a readable memory that holds the model after the split
+  pub split-done : splitNumber room w x e t ≡ 0 → Holds room (splitWords room w x e t) (splitReals room w x e t) (afterSplit (decode room w x) e t)
+  unfolding splitWords splitReals
+  split-done z =
+      let a = accepted room w x e t z in
+      rw z (record { readable = readable-of room _ _ (fit-split room w x e t a); model = model-split room w x e t a })
+
+  -- a refused one leaves every word and float as it was
+  pub split-refused : (n : ℕ) → splitNumber room w x e t ≡ suc n → (splitWords room w x e t ≡ w) × (splitReals room w x e t ≡ x)
+  unfolding splitWords splitReals
+  split-refused n z = rw z (refl, refl)
+
+  -- so that a readable memory holds, behind the call, the model that `meaning` says, accepted or refused
+  pub split-model : readable room w x ≡ true → Holds room (splitWords room w x e t) (splitReals room w x e t) (modelAfter (limits room) (decode room w x) e t)
+  unfolding modelAfter splitNumber
+  split-model r = go (splitRefusal (limits room) (decode room w x) e t) refl
+    where
+      number : splitNumber room w x e t ≡ splitRefusal (limits room) (decode room w x) e t
+      number = rw r
+
+      go : (n : ℕ) → splitRefusal (limits room) (decode room w x) e t ≡ n
+          → Holds room (splitWords room w x e t) (splitReals room w x e t) (whereAccepted n (decode room w x) (afterSplit (decode room w x) e t))
+      go zero z = split-done (number ∙ z)
+      go (suc n) z = let k = split-refused n (number ∙ z) in rw (k .0, k .1) (record { readable = r; model = same-model (decode room w x) })
