@@ -1,0 +1,2 @@
+pub mod Fins
+pub mod Laws

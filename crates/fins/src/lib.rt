@@ -1,0 +1,193 @@
+// What is found of a fin (`fin` and `fin_geometry` of gensolid-check's lib.rs).
+use bounds::carriers::curve_found;
+use bounds::carriers::surface_found;
+use entity::records::Ref;
+use entity::slots::edge_at;
+use entity::slots::fin_at;
+use geometry::tolerance::effective_tolerance;
+use marks::has;
+use model::entries::list;
+use reasons::Tally;
+use reasons::note;
+use reasons::note_if;
+use rims::rim;
+ghost use mathlib.Core.Option.{some};
+ghost use Prim.Native.Nat.{_≤_, _<_};
+ghost use Rattle.meaning.specs.Lists.{listed, joined};
+ghost use Rattle.meaning.specs.Model.{edge};
+ghost use Rattle.meaning.specs.Faults.{carried, finFindings};
+ghost use Rattle.model.specs.Layout.{word};
+ghost use Rattle.model.specs.Decode.{decode};
+ghost use Rattle.model.specs.Fit.{Fit};
+ghost use Rattle.reasons.specs.Log.{Noted, Enough};
+ghost use Rattle.rims.specs.Rims.{refOf};
+ghost use Rattle.fins.specs.Fins.{lacking, verticesThere, finEdge, finOn};
+
+// Reason 17 on the edge e where an end of it names no vertex; there are `used`.
+fn end_there(nums: &mut [u32], t: Tally, used: u32, e: u32, end: Ref) -> Tally
+    requires { ⌜ Enough t (joined (lacking used e) (listed (refOf end))) ⌝ }
+    ensures { λ r. ⌜ Noted (joined (lacking used e) (listed (refOf end))) (now (nums .entry)) t (now (nums .exit)) r ⌝ }
+{
+    match end {
+        Ref::None => t,
+        Ref::Is(v) => note_if(nums, t, !(v < used), 17, 0, e),
+    }
+}
+
+// The same of both ends.
+fn ends_there(
+    room: &[usize; 10],
+    words: &[u32],
+    reals: &[f64],
+    nums: &mut [u32],
+    t: Tally,
+    e: u32,
+) -> Tally
+    requires { ⌜ Fit (now room) (now words) (now reals) ⌝ }
+    requires { ⌜ e < word (now words) 6 ⌝ }
+    requires { ⌜ Enough t (verticesThere (decode (now room) (now words) (now reals)) e) ⌝ }
+    ensures { λ r. ⌜ Noted (verticesThere (decode (now (room .entry)) (now (words .entry)) (now (reals .entry))) e) (now (nums .entry)) t (now (nums .exit)) r ⌝ }
+{
+    let edge = edge_at(room, words, reals, e as usize);
+    let start = edge.start;
+    let end = edge.end;
+    let a = end_there(nums, t, words[7], e, start);
+    end_there(nums, a, words[7], e, end)
+}
+
+// The fin i names the edge e.
+fn fin_edge(
+    room: &[usize; 10],
+    words: &[u32],
+    reals: &[f64],
+    nums: &mut [u32],
+    t: Tally,
+    i: u32,
+    e: u32,
+) -> Tally
+    requires { ⌜ Fit (now room) (now words) (now reals) ⌝ }
+    requires { ⌜ Enough t (finEdge (decode (now room) (now words) (now reals)) i e) ⌝ }
+    ensures { λ r. ⌜ Noted (finEdge (decode (now (room .entry)) (now (words .entry)) (now (reals .entry))) i e) (now (nums .entry)) t (now (nums .exit)) r ⌝ }
+{
+    if words[6] <= e {
+        return note(nums, t, 15, 0, i);
+    }
+    let listed = has(list(room, words, 7, e as usize), i);
+    let a = note_if(nums, t, !listed, 16, 0, e);
+    ends_there(room, words, reals, nums, a, e)
+}
+
+// The loop l lists the fin i.
+pub fn fin(
+    room: &[usize; 10],
+    words: &[u32],
+    reals: &[f64],
+    nums: &mut [u32],
+    t: Tally,
+    l: u32,
+    i: u32,
+) -> Tally
+    requires { ⌜ Fit (now room) (now words) (now reals) ⌝ }
+    requires { ⌜ Enough t (finFindings (decode (now room) (now words) (now reals)) l i) ⌝ }
+    ensures { λ r. ⌜ Noted (finFindings (decode (now (room .entry)) (now (words .entry)) (now (reals .entry))) l i) (now (nums .entry)) t (now (nums .exit)) r ⌝ }
+{
+    if words[5] <= i {
+        return note(nums, t, 13, 0, l);
+    }
+    let fin = fin_at(room, words, i as usize);
+    let a = note_if(nums, t, fin.owner != l, 14, 0, i);
+    fin_edge(room, words, reals, nums, a, i, fin.edge)
+}
+
+// The edge e on its curve c and the surface s.
+fn carried_on(
+    room: &[usize; 10],
+    words: &[u32],
+    reals: &[f64],
+    nums: &mut [u32],
+    t: Tally,
+    n: u32,
+    e: u32,
+    c: u32,
+    s: u32,
+) -> Tally
+    requires { ⌜ Fit (now room) (now words) (now reals) ⌝ }
+    requires { ⌜ (n ≤ 255) × (e < word (now words) 6) ⌝ }
+    requires { ⌜ Enough t (carried (decode (now room) (now words) (now reals)) n e (some c) (some s)) ⌝ }
+    ensures { λ r. ⌜ Noted (carried (decode (now (room .entry)) (now (words .entry)) (now (reals .entry))) n e (some c) (some s)) (now (nums .entry)) t (now (nums .exit)) r ⌝ }
+{
+    let edge = edge_at(room, words, reals, e as usize);
+    let start = edge.start;
+    let end = edge.end;
+    let local = edge.tolerance;
+    let tolerance = effective_tolerance(local, reals[0]);
+    let curve = curve_found(room, words, reals, c as usize);
+    let surface = surface_found(room, words, reals, s as usize);
+    rim(
+        room,
+        words,
+        reals,
+        nums,
+        t,
+        curve,
+        surface,
+        tolerance,
+        n,
+        e,
+        start,
+        end,
+    )
+}
+
+// The edge e on its curve and a face's surface, where there are both; reason 21 where there is no curve.
+fn edge_geometry(
+    room: &[usize; 10],
+    words: &[u32],
+    reals: &[f64],
+    nums: &mut [u32],
+    t: Tally,
+    n: u32,
+    e: u32,
+    surface: Ref,
+) -> Tally
+    requires { ⌜ Fit (now room) (now words) (now reals) ⌝ }
+    requires { ⌜ (n ≤ 255) × (e < word (now words) 6) ⌝ }
+    requires { ⌜ Enough t (carried (decode (now room) (now words) (now reals)) n e (edge (decode (now room) (now words) (now reals)) e .curve) (refOf surface)) ⌝ }
+    ensures { λ r. ⌜ Noted (carried (decode (now (room .entry)) (now (words .entry)) (now (reals .entry))) n e (edge (decode (now (room .entry)) (now (words .entry)) (now (reals .entry))) e .curve) (refOf surface)) (now (nums .entry)) t (now (nums .exit)) r ⌝ }
+{
+    let edge = edge_at(room, words, reals, e as usize);
+    let curve = edge.curve;
+    match curve {
+        Ref::None => note(nums, t, 21, 0, e),
+        Ref::Is(c) => match surface {
+            Ref::None => t,
+            Ref::Is(s) => carried_on(room, words, reals, nums, t, n, e, c, s),
+        },
+    }
+}
+
+// The geometry of the fin i of a face with that surface, with n samples.
+pub fn fin_geometry(
+    room: &[usize; 10],
+    words: &[u32],
+    reals: &[f64],
+    nums: &mut [u32],
+    t: Tally,
+    n: u32,
+    surface: Ref,
+    i: u32,
+) -> Tally
+    requires { ⌜ Fit (now room) (now words) (now reals) ⌝ }
+    requires { ⌜ n ≤ 255 ⌝ }
+    requires { ⌜ Enough t (finOn (decode (now room) (now words) (now reals)) n (refOf surface) i) ⌝ }
+    ensures { λ r. ⌜ Noted (finOn (decode (now (room .entry)) (now (words .entry)) (now (reals .entry))) n (refOf surface) i) (now (nums .entry)) t (now (nums .exit)) r ⌝ }
+{
+    if words[5] <= i {
+        return t;
+    }
+    let e = fin_at(room, words, i as usize).edge;
+    if words[6] <= e {
+        return t;
+    }
+    edge_geometry(room, words, reals, nums, t, n, e, surface)
+}

@@ -1,0 +1,3 @@
+pub mod Rims
+pub mod Steps
+pub mod Laws

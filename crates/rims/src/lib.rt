@@ -1,0 +1,299 @@
+// An edge's two ends and its samples, held against its curve and a face's surface (parts of `fin_geometry` of gensolid-check's lib.rs).
+use entity::records::Ref;
+use entity::slots::vertex_at;
+use geometry::tolerance::effective_tolerance;
+use points::curve_test;
+use points::point_on_surface;
+use points::sample_tests;
+use reasons::Tally;
+use reasons::skip;
+use store::Carrier;
+use store::Found;
+use store::Projected;
+use store::project_to_curve;
+use vectors::vector::Point3;
+ghost use mathlib.Core.Path.{_≡_};
+ghost use mathlib.Core.Bool.{not};
+ghost use mathlib.Core.List.{List};
+ghost use Prim.Native.Nat.{ℕ, _≤_};
+ghost use Rattle.meaning.specs.Lists.{isSome, listed, joined};
+ghost use Rattle.meaning.specs.Faults.{skipped, onlyIf, isOther};
+ghost use Rattle.model.specs.Decode.{decode};
+ghost use Rattle.model.specs.Fit.{Sized};
+ghost use Rattle.reasons.specs.Log.{Noted, Enough};
+ghost use Rattle.rims.specs.Rims.{refOf, endAt, endFindings, paramAt, paramOf, between, endsFindings, samplesBetween, ringed, rimFindings};
+
+// The parameter of an end on the curve, where it projected.
+pub enum Param {
+    None,
+    At(f64),
+}
+
+// The vertex v at p, with its own tolerance, against the curve of the edge e, then against the surface.
+fn end_at(
+    nums: &mut [u32],
+    t: Tally,
+    curve: Found,
+    surface: Found,
+    p: Point3,
+    own: f64,
+    tolerance: f64,
+    e: u32,
+    v: u32,
+) -> Tally
+    requires { ⌜ Enough t (endAt curve surface p own tolerance e v) ⌝ }
+    ensures { λ r. ⌜ Noted (endAt curve surface p own tolerance e v) (now (nums .entry)) t (now (nums .exit)) r ⌝ }
+{
+    let a = curve_test(nums, t, curve, p, own, tolerance, e, v);
+    point_on_surface(nums, a, surface, p, own, 23, 7, v)
+}
+
+// The same of a vertex by its id; a missing one is passed over.
+fn end_test(
+    room: &[usize; 10],
+    words: &[u32],
+    reals: &[f64],
+    nums: &mut [u32],
+    t: Tally,
+    curve: Found,
+    surface: Found,
+    tolerance: f64,
+    e: u32,
+    v: u32,
+) -> Tally
+    requires { ⌜ Sized (now room) (now words) (now reals) ⌝ }
+    requires { ⌜ Enough t (endFindings (decode (now room) (now words) (now reals)) curve surface tolerance e v) ⌝ }
+    ensures { λ r. ⌜ Noted (endFindings (decode (now (room .entry)) (now (words .entry)) (now (reals .entry))) curve surface tolerance e v) (now (nums .entry)) t (now (nums .exit)) r ⌝ }
+{
+    if words[7] <= v {
+        return t;
+    }
+    let vertex = vertex_at(room, words, reals, v as usize);
+    let local = vertex.tolerance;
+    let own = effective_tolerance(local, reals[0]);
+    end_at(nums, t, curve, surface, vertex.point, own, tolerance, e, v)
+}
+
+// The same of an end; none is skipped.
+fn end_of(
+    room: &[usize; 10],
+    words: &[u32],
+    reals: &[f64],
+    nums: &mut [u32],
+    t: Tally,
+    curve: Found,
+    surface: Found,
+    tolerance: f64,
+    e: u32,
+    end: Ref,
+) -> Tally
+    requires { ⌜ Sized (now room) (now words) (now reals) ⌝ }
+    requires { ⌜ Enough t (joined (endFindings (decode (now room) (now words) (now reals)) curve surface tolerance e) (listed (refOf end))) ⌝ }
+    ensures { λ r. ⌜ Noted (joined (endFindings (decode (now (room .entry)) (now (words .entry)) (now (reals .entry))) curve surface tolerance e) (listed (refOf end))) (now (nums .entry)) t (now (nums .exit)) r ⌝ }
+{
+    match end {
+        Ref::None => t,
+        Ref::Is(v) => end_test(room, words, reals, nums, t, curve, surface, tolerance, e, v),
+    }
+}
+
+// Both ends, start then end.
+fn ends(
+    room: &[usize; 10],
+    words: &[u32],
+    reals: &[f64],
+    nums: &mut [u32],
+    t: Tally,
+    curve: Found,
+    surface: Found,
+    tolerance: f64,
+    e: u32,
+    start: Ref,
+    end: Ref,
+) -> Tally
+    requires { ⌜ Sized (now room) (now words) (now reals) ⌝ }
+    requires { ⌜ Enough t (endsFindings (decode (now room) (now words) (now reals)) curve surface tolerance e (refOf start) (refOf end)) ⌝ }
+    ensures { λ r. ⌜ Noted (endsFindings (decode (now (room .entry)) (now (words .entry)) (now (reals .entry))) curve surface tolerance e (refOf start) (refOf end)) (now (nums .entry)) t (now (nums .exit)) r ⌝ }
+{
+    let a = end_of(
+        room,
+        words,
+        reals,
+        nums,
+        t,
+        curve,
+        surface,
+        tolerance,
+        e,
+        start,
+    );
+    end_of(
+        room,
+        words,
+        reals,
+        nums,
+        a,
+        curve,
+        surface,
+        tolerance,
+        e,
+        end,
+    )
+}
+
+// The parameter of a vertex on the curve, where it exists and projected.
+fn parameter_at(room: &[usize; 10], words: &[u32], reals: &[f64], curve: Found, v: u32) -> Param
+    requires { ⌜ Sized (now room) (now words) (now reals) ⌝ }
+    ensures { λ r. ⌜ r ≡ paramAt (decode (now (room .entry)) (now (words .entry)) (now (reals .entry))) curve v ⌝ }
+{
+    if words[7] <= v {
+        return Param::None;
+    }
+    match project_to_curve(curve, vertex_at(room, words, reals, v as usize).point) {
+        Projected::Refused(_) => Param::None,
+        Projected::At(near) => Param::At(near.param),
+    }
+}
+
+fn parameter(room: &[usize; 10], words: &[u32], reals: &[f64], curve: Found, end: Ref) -> Param
+    requires { ⌜ Sized (now room) (now words) (now reals) ⌝ }
+    ensures { λ r. ⌜ r ≡ paramOf (decode (now (room .entry)) (now (words .entry)) (now (reals .entry))) curve (refOf end) ⌝ }
+{
+    match end {
+        Ref::None => Param::None,
+        Ref::Is(v) => parameter_at(room, words, reals, curve, v),
+    }
+}
+
+// The samples of the edge e, only if both ends projected.
+fn samples_between(
+    nums: &mut [u32],
+    t: Tally,
+    curve: Found,
+    surface: Found,
+    tolerance: f64,
+    n: u32,
+    e: u32,
+    start: Param,
+    end: Param,
+) -> Tally
+    requires { ⌜ n ≤ 255 ⌝ }
+    requires { ⌜ Enough t (between curve surface tolerance n e start end) ⌝ }
+    ensures { λ r. ⌜ Noted (between curve surface tolerance n e start end) (now (nums .entry)) t (now (nums .exit)) r ⌝ }
+{
+    match start {
+        Param::None => t,
+        Param::At(t0) => match end {
+            Param::None => t,
+            Param::At(t1) => sample_tests(nums, t, curve, surface, tolerance, t0, t1, n, e),
+        },
+    }
+}
+
+fn samples(
+    room: &[usize; 10],
+    words: &[u32],
+    reals: &[f64],
+    nums: &mut [u32],
+    t: Tally,
+    curve: Found,
+    surface: Found,
+    tolerance: f64,
+    n: u32,
+    e: u32,
+    start: Ref,
+    end: Ref,
+) -> Tally
+    requires { ⌜ Sized (now room) (now words) (now reals) ⌝ }
+    requires { ⌜ n ≤ 255 ⌝ }
+    requires { ⌜ Enough t (samplesBetween (decode (now room) (now words) (now reals)) curve surface tolerance n e (refOf start) (refOf end)) ⌝ }
+    ensures { λ r. ⌜ Noted (samplesBetween (decode (now (room .entry)) (now (words .entry)) (now (reals .entry))) curve surface tolerance n e (refOf start) (refOf end)) (now (nums .entry)) t (now (nums .exit)) r ⌝ }
+{
+    let t0 = parameter(room, words, reals, curve, start);
+    let t1 = parameter(room, words, reals, curve, end);
+    samples_between(nums, t, curve, surface, tolerance, n, e, t0, t1)
+}
+
+fn is_other(found: Found) -> bool
+    ensures { λ r. ⌜ r ≡ isOther found ⌝ }
+{
+    match found {
+        Found::Missing => false,
+        Found::There(carrier) => match carrier {
+            Carrier::Line(_) => false,
+            Carrier::Plane(_) => false,
+            Carrier::Other => true,
+        },
+    }
+}
+
+pub fn is_none(end: Ref) -> bool
+    ensures { λ r. ⌜ r ≡ not (isSome (refOf end)) ⌝ }
+{
+    match end {
+        Ref::None => true,
+        Ref::Is(_) => false,
+    }
+}
+
+// A check not made, where an edge has neither end and its curve or the surface is "other".
+fn ring(t: Tally, curve: Found, surface: Found, start: Ref, end: Ref) -> Tally
+    requires { ⌜ Enough t (onlyIf (ringed curve surface (refOf start) (refOf end)) skipped) ⌝ }
+    ensures { λ r. ⌜ ((d : List ℕ) → Noted (onlyIf (ringed curve surface (refOf start) (refOf end)) skipped) d t d r) ⌝ }
+{
+    let other = is_none(start) & is_none(end) & (is_other(curve) | is_other(surface));
+    if other {
+        return skip(t);
+    }
+    t
+}
+
+// The edge e on its curve and the face's surface: its ends, then n samples, then the rule of rings.
+pub fn rim(
+    room: &[usize; 10],
+    words: &[u32],
+    reals: &[f64],
+    nums: &mut [u32],
+    t: Tally,
+    curve: Found,
+    surface: Found,
+    tolerance: f64,
+    n: u32,
+    e: u32,
+    start: Ref,
+    end: Ref,
+) -> Tally
+    requires { ⌜ Sized (now room) (now words) (now reals) ⌝ }
+    requires { ⌜ n ≤ 255 ⌝ }
+    requires { ⌜ Enough t (rimFindings (decode (now room) (now words) (now reals)) curve surface tolerance n e (refOf start) (refOf end)) ⌝ }
+    ensures { λ r. ⌜ Noted (rimFindings (decode (now (room .entry)) (now (words .entry)) (now (reals .entry))) curve surface tolerance n e (refOf start) (refOf end)) (now (nums .entry)) t (now (nums .exit)) r ⌝ }
+{
+    let a = ends(
+        room,
+        words,
+        reals,
+        nums,
+        t,
+        curve,
+        surface,
+        tolerance,
+        e,
+        start,
+        end,
+    );
+    let b = samples(
+        room,
+        words,
+        reals,
+        nums,
+        a,
+        curve,
+        surface,
+        tolerance,
+        n,
+        e,
+        start,
+        end,
+    );
+    ring(b, curve, surface, start, end)
+}
