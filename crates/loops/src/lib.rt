@@ -1,0 +1,146 @@
+// What is found of a loop (`loop_` of gensolid-check's lib.rs).
+use entity::records::Ref;
+use entity::slots::face_at;
+use entity::slots::loop_at;
+use fins::fin;
+use fins::fin_geometry;
+use model::entries::list;
+use opens::open_loop;
+use reasons::Tally;
+use reasons::note;
+use reasons::note_if;
+ghost use mathlib.Core.Path.{_≡_};
+ghost use Prim.Native.Nat.{_≤_, _<_};
+ghost use Rattle.meaning.specs.Lists.{joined};
+ghost use Rattle.meaning.specs.Faults.{finFindings, finGeometry, loopFindings};
+ghost use Rattle.model.specs.Layout.{word};
+ghost use Rattle.model.specs.Decode.{decode};
+ghost use Rattle.model.specs.Fit.{Fit};
+ghost use Rattle.reasons.specs.Log.{Noted, Enough};
+ghost use Rattle.rims.specs.Rims.{refOf};
+ghost use Rattle.fins.specs.Fins.{finOn};
+ghost use Rattle.loops.specs.Loops.{options, finsFindings};
+
+// The fins that the loop l lists.
+fn all_fins(
+    room: &[usize; 10],
+    words: &[u32],
+    reals: &[f64],
+    nums: &mut [u32],
+    t: Tally,
+    l: u32,
+    fins: &[u32],
+) -> Tally
+    requires { ⌜ Fit (now room) (now words) (now reals) ⌝ }
+    requires { ⌜ Enough t (joined (finFindings (decode (now room) (now words) (now reals)) l) (now fins)) ⌝ }
+    ensures { λ r. ⌜ Noted (joined (finFindings (decode (now (room .entry)) (now (words .entry)) (now (reals .entry))) l) (now (fins .entry))) (now (nums .entry)) t (now (nums .exit)) r ⌝ }
+{
+    let mut tally = t;
+    let mut k = 0;
+    while k < fins.len() {
+        tally = fin(room, words, reals, nums, tally, l, fins[k]);
+        k += 1;
+    }
+    tally
+}
+
+// Their geometry, on a face with that surface.
+fn all_geometry(
+    room: &[usize; 10],
+    words: &[u32],
+    reals: &[f64],
+    nums: &mut [u32],
+    t: Tally,
+    n: u32,
+    surface: Ref,
+    fins: &[u32],
+) -> Tally
+    requires { ⌜ Fit (now room) (now words) (now reals) ⌝ }
+    requires { ⌜ n ≤ 255 ⌝ }
+    requires { ⌜ Enough t (joined (finOn (decode (now room) (now words) (now reals)) n (refOf surface)) (now fins)) ⌝ }
+    ensures { λ r. ⌜ Noted (joined (finOn (decode (now (room .entry)) (now (words .entry)) (now (reals .entry))) n (refOf surface)) (now (fins .entry))) (now (nums .entry)) t (now (nums .exit)) r ⌝ }
+{
+    let mut tally = t;
+    let mut k = 0;
+    while k < fins.len() {
+        tally = fin_geometry(room, words, reals, nums, tally, n, surface, fins[k]);
+        k += 1;
+    }
+    tally
+}
+
+// Their geometry, on the face f.
+fn loop_geometry(
+    room: &[usize; 10],
+    words: &[u32],
+    reals: &[f64],
+    nums: &mut [u32],
+    t: Tally,
+    n: u32,
+    f: u32,
+    fins: &[u32],
+) -> Tally
+    requires { ⌜ Fit (now room) (now words) (now reals) ⌝ }
+    requires { ⌜ (n ≤ 255) × (f < word (now words) 3) ⌝ }
+    requires { ⌜ Enough t (joined (finGeometry (decode (now room) (now words) (now reals)) n f) (now fins)) ⌝ }
+    ensures { λ r. ⌜ Noted (joined (finGeometry (decode (now (room .entry)) (now (words .entry)) (now (reals .entry))) n f) (now (fins .entry))) (now (nums .entry)) t (now (nums .exit)) r ⌝ }
+{
+    let face = face_at(room, words, f as usize);
+    let surface = face.surface;
+    all_geometry(room, words, reals, nums, t, n, surface, fins)
+}
+
+// The fins of the loop l: each by itself, each against the next, then the geometry of each.
+fn loop_fins(
+    room: &[usize; 10],
+    words: &[u32],
+    reals: &[f64],
+    nums: &mut [u32],
+    t: Tally,
+    geometry: bool,
+    n: u32,
+    f: u32,
+    l: u32,
+    fins: &[u32],
+) -> Tally
+    requires { ⌜ Fit (now room) (now words) (now reals) ⌝ }
+    requires { ⌜ (n ≤ 255) × (f < word (now words) 3) ⌝ }
+    requires { ⌜ Enough t (finsFindings (decode (now room) (now words) (now reals)) (options geometry n) f l (now fins)) ⌝ }
+    ensures { λ r. ⌜ Noted (finsFindings (decode (now (room .entry)) (now (words .entry)) (now (reals .entry))) (options geometry n) f l (now (fins .entry))) (now (nums .entry)) t (now (nums .exit)) r ⌝ }
+{
+    if fins.len() == 0 {
+        return note(nums, t, 12, 0, l);
+    }
+    let a = all_fins(room, words, reals, nums, t, l, fins);
+    let b = open_loop(room, words, reals, nums, a, fins);
+    if !geometry {
+        return b;
+    }
+    loop_geometry(room, words, reals, nums, b, n, f, fins)
+}
+
+// The face f lists the loop l.
+pub fn loop_(
+    room: &[usize; 10],
+    words: &[u32],
+    reals: &[f64],
+    nums: &mut [u32],
+    t: Tally,
+    geometry: bool,
+    n: u32,
+    f: u32,
+    l: u32,
+) -> Tally
+    requires { ⌜ Fit (now room) (now words) (now reals) ⌝ }
+    requires { ⌜ (n ≤ 255) × (f < word (now words) 3) ⌝ }
+    requires { ⌜ Enough t (loopFindings (decode (now room) (now words) (now reals)) (options geometry n) f l) ⌝ }
+    ensures { λ r. ⌜ Noted (loopFindings (decode (now (room .entry)) (now (words .entry)) (now (reals .entry))) (options geometry n) f l) (now (nums .entry)) t (now (nums .exit)) r ⌝ }
+{
+    if words[4] <= l {
+        return note(nums, t, 10, 0, f);
+    }
+    let owner = loop_at(room, words, l as usize).face;
+    let a = note_if(nums, t, owner != f, 11, 0, l);
+    let fins = list(room, words, 6, l as usize);
+    loop_fins(room, words, reals, nums, a, geometry, n, f, l, fins)
+}
