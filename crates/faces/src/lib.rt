@@ -1,0 +1,120 @@
+// What is found of a face (`face` of gensolid-check's lib.rs).
+use entity::records::Ref;
+use entity::slots::face_at;
+use loops::loop_;
+use model::entries::list;
+use reasons::Tally;
+use reasons::note;
+use reasons::note_if;
+use rims::is_none;
+ghost use mathlib.Core.Path.{_≡_};
+ghost use Prim.Native.Nat.{_≤_, _<_};
+ghost use Rattle.meaning.specs.Lists.{is, joined};
+ghost use Rattle.meaning.specs.Faults.{loopFindings, checkedFrom, faceFindings};
+ghost use Rattle.model.specs.Layout.{word};
+ghost use Rattle.model.specs.Decode.{decode};
+ghost use Rattle.model.specs.Fit.{Fit};
+ghost use Rattle.reasons.specs.Log.{Noted, Enough};
+ghost use Rattle.rims.specs.Rims.{refOf};
+ghost use Rattle.loops.specs.Loops.{options};
+ghost use Rattle.faces.specs.Faces.{insideFindings};
+
+// The loops that the face f lists.
+fn all_loops(
+    room: &[usize; 10],
+    words: &[u32],
+    reals: &[f64],
+    nums: &mut [u32],
+    t: Tally,
+    geometry: bool,
+    n: u32,
+    f: u32,
+    loops: &[u32],
+) -> Tally
+    requires { ⌜ Fit (now room) (now words) (now reals) ⌝ }
+    requires { ⌜ (n ≤ 255) × (f < word (now words) 3) ⌝ }
+    requires { ⌜ Enough t (joined (loopFindings (decode (now room) (now words) (now reals)) (options geometry n) f) (now loops)) ⌝ }
+    ensures { λ r. ⌜ Noted (joined (loopFindings (decode (now (room .entry)) (now (words .entry)) (now (reals .entry))) (options geometry n) f) (now (loops .entry))) (now (nums .entry)) t (now (nums .exit)) r ⌝ }
+{
+    let mut tally = t;
+    let mut k = 0;
+    while k < loops.len() {
+        tally = loop_(room, words, reals, nums, tally, geometry, n, f, loops[k]);
+        k += 1;
+    }
+    tally
+}
+
+// The surface of the face f, and its loops.
+fn face_inside(
+    room: &[usize; 10],
+    words: &[u32],
+    reals: &[f64],
+    nums: &mut [u32],
+    t: Tally,
+    geometry: bool,
+    n: u32,
+    f: u32,
+) -> Tally
+    requires { ⌜ Fit (now room) (now words) (now reals) ⌝ }
+    requires { ⌜ (n ≤ 255) × (f < word (now words) 3) ⌝ }
+    requires { ⌜ Enough t (insideFindings (decode (now room) (now words) (now reals)) (options geometry n) f) ⌝ }
+    ensures { λ r. ⌜ Noted (insideFindings (decode (now (room .entry)) (now (words .entry)) (now (reals .entry))) (options geometry n) f) (now (nums .entry)) t (now (nums .exit)) r ⌝ }
+{
+    let face = face_at(room, words, f as usize);
+    let surface = face.surface;
+    let bare = is_none(surface);
+    let a = note_if(nums, t, bare, 9, 0, f);
+    let loops = list(room, words, 5, f as usize);
+    all_loops(room, words, reals, nums, a, geometry, n, f, loops)
+}
+
+fn is_shell(side: Ref, s: u32) -> bool
+    ensures { λ r. ⌜ r ≡ is (refOf side) s ⌝ }
+{
+    match side {
+        Ref::None => false,
+        Ref::Is(i) => i == s,
+    }
+}
+
+// A face is checked from its front shell, or from each shell that lists it where front is none.
+fn checked_from(front: Ref, s: u32) -> bool
+    ensures { λ r. ⌜ r ≡ checkedFrom (refOf front) s ⌝ }
+{
+    match front {
+        Ref::None => true,
+        Ref::Is(own) => own == s,
+    }
+}
+
+// The shell s lists the face f.
+pub fn face(
+    room: &[usize; 10],
+    words: &[u32],
+    reals: &[f64],
+    nums: &mut [u32],
+    t: Tally,
+    geometry: bool,
+    n: u32,
+    s: u32,
+    f: u32,
+) -> Tally
+    requires { ⌜ Fit (now room) (now words) (now reals) ⌝ }
+    requires { ⌜ n ≤ 255 ⌝ }
+    requires { ⌜ Enough t (faceFindings (decode (now room) (now words) (now reals)) (options geometry n) s f) ⌝ }
+    ensures { λ r. ⌜ Noted (faceFindings (decode (now (room .entry)) (now (words .entry)) (now (reals .entry))) (options geometry n) s f) (now (nums .entry)) t (now (nums .exit)) r ⌝ }
+{
+    if words[3] <= f {
+        return note(nums, t, 7, 0, s);
+    }
+    let face = face_at(room, words, f as usize);
+    let front = face.front;
+    let back = face.back;
+    let sided = is_shell(front, s) | is_shell(back, s);
+    let a = note_if(nums, t, !sided, 8, 0, f);
+    if !checked_from(front, s) {
+        return a;
+    }
+    face_inside(room, words, reals, nums, a, geometry, n, f)
+}
