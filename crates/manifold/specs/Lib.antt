@@ -1,0 +1,2 @@
+pub mod Manifold
+pub mod Laws
