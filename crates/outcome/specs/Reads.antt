@@ -1,6 +1,6 @@
 -- How each record reads behind an accepted split: the loops and shells with their longer lists, the two halves, the new fins and the new vertex, and all others as they were.
 -- Assumes nothing.
-use Prim.Native.Nat.{ℕ, _+_, _-_, _≤_, _<_}
+use Prim.Native.Nat.{ℕ, zero, suc, _+_, _-_, _≤_, _<_}
 use native.Mathlib.Omega.{arith}
 use mathlib.Core.Path.{_≡_, refl, ap, _∙_}
 use mathlib.Core.Logic.{_⊎_, inl, inr}
@@ -9,7 +9,7 @@ use mathlib.Core.List.{List, [], _∷_}
 use lib.Dec.{eqb}
 use lib.ListN.{length, length-map}
 use lib.Ieee.{Float, nan}
-use borrow.Author.Tests.{eq-eqb, ne-eqb, lt-ltb, le-leb, lt-leb}
+use borrow.Author.Tests.{eq-eqb, ne-eqb, lt-ltb, le-ltb, le-leb, lt-leb}
 use Rattle.vectors.specs.declared.vector.Point3.{Point3}
 use Rattle.meaning.specs.Lists.{joined}
 use Rattle.meaning.specs.Split.{splitPoint}
@@ -26,9 +26,10 @@ use Rattle.beside.specs.Beside.{entriesFor, doubled}
 use Rattle.pieces.specs.Pieces.{finWords, newFin, secondFields, countsPut, floatsPut}
 use Rattle.pieces.specs.Facts.{Slots}
 use Rattle.pieces.specs.Steps.{Stage}
-use Rattle.splits.specs.After.{listsPut, recordsPut, splitPut, wordsSplit, realsSplit}
+use Rattle.seams.specs.Written.{listsPut, recordsPut, splitPut, wordsSplit}
+use Rattle.splits.specs.After.{realsSplit}
 use Rattle.splits.specs.Rooms.{Accepted, ready, slots}
-use Rattle.splits.specs.Chain.{nowAll, all-stage}
+use Rattle.seams.specs.Chain.{nowAll, all-stage}
 
 -- ---- a record's floats, behind a write of others
 
@@ -185,6 +186,25 @@ module _ (room w : List ℕ) (x : List Float) (e : ℕ) (t : Float) (a : Accepte
   pub new-vertex : wordsOf room w′ 7 (word w 7) ≡ word first-half 6 ∷ []
   new-vertex = reads 7 (word w 7) (room-kept .vertices) ∙ rw (eq-eqb (word w 7) (word w 7) refl, eq-eqb e e refl, apart) refl
 
+  -- a slot that is not used, before the split nor behind it, holds what it held
+  pub slot-words : (m j : ℕ) → m < 10 → word w′ m ≤ j → j < word room m → wordsOf room w′ m j ≡ wordsOf room w m j
+  slot-words zero j h u g = reads 0 j g
+  slot-words (suc zero) j h u g = reads 1 j g
+  slot-words (suc (suc zero)) j h u g = let d = used-else 2 h (inl (omega arith)) in reads 2 j g ∙ rw (le-ltb j (word w 2) (omega arith)) refl
+  slot-words (suc (suc (suc zero))) j h u g = reads 3 j g
+  slot-words (suc (suc (suc (suc zero)))) j h u g = let d = used-else 4 h (inl (omega arith)) in reads 4 j g ∙ rw (le-ltb j (word w 4) (omega arith)) refl
+  slot-words (suc (suc (suc (suc (suc zero))))) j h u g =
+      let d = used-fins in
+      reads 5 j g ∙ rw (le-leb (word w 5) j (omega arith), le-ltb j (word w 5 + n) (omega arith)) refl
+  slot-words (suc (suc (suc (suc (suc (suc zero)))))) j h u g =
+      let d = used-edges in
+      let o = there in
+      reads 6 j g ∙ rw (ne-eqb j e (λ q. omega arith), ne-eqb j (word w 6) (λ q. omega arith)) refl
+  slot-words (suc (suc (suc (suc (suc (suc (suc zero))))))) j h u g = let d = used-vertices in reads 7 j g ∙ rw (ne-eqb j (word w 7) (λ q. omega arith)) refl
+  slot-words (suc (suc (suc (suc (suc (suc (suc (suc zero)))))))) j h u g = reads 8 j g
+  slot-words (suc (suc (suc (suc (suc (suc (suc (suc (suc zero))))))))) j h u g = reads 9 j g
+  slot-words (suc (suc (suc (suc (suc (suc (suc (suc (suc (suc m)))))))))) j h u g = absurd (omega arith)
+
   -- ---- the floats
 
   abbrev pub tolerance : Float
@@ -234,3 +254,8 @@ module _ (room w : List ℕ) (x : List Float) (e : ℕ) (t : Float) (a : Accepte
   pub vertex-floats : realsOf room x′ 7 (word w 7) ≡ vertex-reals
   unfolding realsSplit floatsPut
   vertex-floats = floats-there room x₁ vertex-reals 7 (word w 7) vertex-slot refl
+
+  pub slot-floats : (m j : ℕ) → m < 10 → word w′ m ≤ j → j < word room m → realsOf room x′ m j ≡ realsOf room x m j
+  slot-floats m j h u g =
+      floats-same m j g (λ d q. let c : word w′ 6 ≡ word w′ m = ap (word w′) d in let k = used-edges in omega arith)
+      (λ d q. let c : word w′ 7 ≡ word w′ m = ap (word w′) d in let k = used-vertices in omega arith)

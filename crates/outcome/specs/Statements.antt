@@ -1,11 +1,12 @@
 -- What `split_line_edge` does to the model that the lent memory holds. Assumes nothing.
-use Prim.Native.Nat.{ℕ, zero, suc}
+use Prim.Native.Nat.{ℕ, zero, suc, _≤_, _<_}
 use mathlib.Core.Path.{_≡_, refl, _∙_}
 use mathlib.Core.Bool.{true}
 use mathlib.Core.List.{List}
 use lib.Ieee.{Float}
 use Rattle.meaning.specs.Model.{Model, Table}
 use Rattle.meaning.specs.Split.{splitRefusal, afterSplit, whereAccepted, modelAfter}
+use Rattle.model.specs.Layout.{word, wordsOf, realsOf}
 use Rattle.model.specs.Decode.{decode}
 use Rattle.model.specs.Readable.{readable}
 use Rattle.frame.specs.Change.{SameTable, SameModel}
@@ -13,6 +14,7 @@ use Rattle.frame.specs.Kept.{readable-of}
 use Rattle.cuts.specs.Rows.{limits, splitNumber}
 use Rattle.splits.specs.After.{splitWords, splitReals}
 use Rattle.splits.specs.Rooms.{accepted}
+use Rattle.outcome.specs.Reads.{slot-words, slot-floats}
 use Rattle.outcome.specs.Same.{model-split}
 use Rattle.outcome.specs.Stays.{fit-split}
 
@@ -47,6 +49,12 @@ module _ (room w : List ℕ) (x : List Float) (e : ℕ) (t : Float) where
   split-done z =
       let a = accepted room w x e t z in
       rw z (record { readable = readable-of room _ _ (fit-split room w x e t a); model = model-split room w x e t a })
+
+  -- slots that are not used stay as they were
+  pub unused-slots-stay : splitNumber room w x e t ≡ 0 → (k i : ℕ) → k < 10 → word (splitWords room w x e t) k ≤ i → i < word room k
+      → (wordsOf room (splitWords room w x e t) k i ≡ wordsOf room w k i) × (realsOf room (splitReals room w x e t) k i ≡ realsOf room x k i)
+  unfolding splitWords splitReals
+  unused-slots-stay z = let a = accepted room w x e t z in rw z (λ k i h u g. (slot-words room w x e t a k i h u g, slot-floats room w x e t a k i h u g))
 
   -- a refused one leaves every word and float as it was
   pub split-refused : (n : ℕ) → splitNumber room w x e t ≡ suc n → (splitWords room w x e t ≡ w) × (splitReals room w x e t ≡ x)

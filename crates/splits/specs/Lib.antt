@@ -2,4 +2,3 @@ pub mod After
 pub mod Facts
 pub mod Named
 pub mod Rooms
-pub mod Chain

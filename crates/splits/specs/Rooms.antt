@@ -34,7 +34,8 @@ use Rattle.cuts.specs.Rows.{limits, splitNumber, edgeRow, placeRow, roomRow}
 use Rattle.cuts.specs.Laws.{Opened, opened, owned, place-rows, room-rows, split-rows}
 use Rattle.pieces.specs.Pieces.{finWord, finWords}
 use Rattle.pieces.specs.Facts.{Slots}
-use Rattle.splits.specs.Facts.{Ready, Listing, Open}
+use Rattle.seams.specs.Facts.{Ready, Listing}
+use Rattle.splits.specs.Facts.{Open}
 use Rattle.splits.specs.Named.{entries-fin, entries-wire, eqb-swap, joined-length, beside-length, countIf-count, among}
 
 -- each entry of a row that passes passes its own test

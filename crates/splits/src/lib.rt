@@ -1,11 +1,10 @@
 // `split_line_edge` of euler.rs: the thirteen tests, then the writing, which cannot fail. `specs/After.antt` says what it answers
 // and leaves.
 pub mod point;
-pub mod writing;
 
 use crate::point::write_floats;
-use crate::writing::write_words;
 use cuts::split_refusal;
+use seams::write_split;
 ghost use mathlib.Core.Path.{_≡_};
 ghost use Rattle.splits.specs.After.{splitAnswer, splitWords, splitReals};
 
@@ -44,6 +43,6 @@ pub fn split_line_edge(
         vertex: words[7],
     };
     write_floats(room, &words[..], reals, edge, fraction);
-    write_words(room, words, edge);
+    write_split(room, words, edge);
     Split::Is(split)
 }

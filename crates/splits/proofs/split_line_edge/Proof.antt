@@ -56,8 +56,8 @@ write-floats-requires c κs =
     let z : splitNumber (s .args .room .now) (s .args .words .now) (s .args .reals .now) (s .args .edge) (s .args .fraction) ≡ 0 = sym (c .before .before .before .before .before .split-refusal .ensures) ∙ c .before .before .before .before .if1 .left in
     opening _ _ _ _ _ (accepted _ _ _ _ _ z)
 
-write-words-requires : tie.Need-write-words-requires
-write-words-requires c κs =
+write-split-requires : tie.Need-write-split-requires
+write-split-requires c κs =
     let s = c .before .before .before .before .before .before .before .before .before .before .before .before .before .before in
     let z : splitNumber (s .args .room .now) (s .args .words .now) (s .args .reals .now) (s .args .edge) (s .args .fraction) ≡ 0 = sym (c .before .before .before .before .before .before .before .before .before .split-refusal .ensures) ∙ c .before .before .before .before .before .before .before .before .if1 .left in
     listing _ _ _ _ _ (accepted _ _ _ _ _ z)
@@ -73,7 +73,7 @@ unfolding splitAnswer splitWords splitReals
 returns-2 c =
     let s = c .before .before .before .before .before .before .before .before .before .before .before .before .before .before .before .before .before in
     let z : splitNumber (s .args .room .now) (s .args .words .now) (s .args .reals .now) (s .args .edge) (s .args .fraction) ≡ 0 = sym (c .before .before .before .before .before .before .before .before .before .before .before .before .split-refusal .ensures) ∙ c .before .before .before .before .before .before .before .before .before .before .before .if1 .left in
-    (rw z refl, (rw z (c .before .before .write-words .ensures), rw z (c .before .before .before .before .before .before .write-floats .ensures)))
+    (rw z refl, (rw z (c .before .before .write-split .ensures), rw z (c .before .before .before .before .before .before .write-floats .ensures)))
 
 pub split-line-edge-spec : {M : Type 1} → statement M
 split-line-edge-spec =
@@ -87,7 +87,7 @@ split-line-edge-spec =
     slice-read-t15
     slice-read-t17
     write-floats-requires
-    write-words-requires
+    write-split-requires
     same-length-3
     same-length-4
     returns-2)

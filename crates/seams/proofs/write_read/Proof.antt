@@ -1,11 +1,11 @@
-use Rattle.splits.specs.After.{wordsSplit}
+use Rattle.seams.specs.Written.{wordsSplit}
 use Rattle.pieces.specs.Pieces.{finWords}
 use lib.ListN.{length}
 use mathlib.Core.Path.{sym, ap, _∙_}
 use native.Mathlib.Omega.{arith}
 use borrow.Author.Needs.{needs}
-use Rattle.splits.proofs.writing.write_read.Statement.{statement}
-use Rattle.splits.proofs.writing.write_read.Tie as tie
+use Rattle.seams.proofs.write_read.Statement.{statement}
+use Rattle.seams.proofs.write_read.Tie as tie
 
 copy-fins-requires : tie.Need-copy-fins-requires
 copy-fins-requires c κs = search needs

@@ -1,13 +1,13 @@
-use Rattle.splits.specs.Chain.{behind-fins, behind-second, behind-first}
-use Rattle.splits.specs.After.{recordsPut}
+use Rattle.seams.specs.Chain.{behind-fins, behind-second, behind-first}
+use Rattle.seams.specs.Written.{recordsPut}
 use Rattle.pieces.specs.Steps.{stage-none}
 use Rattle.pieces.specs.Pieces.{secondPut, firstPut, vertexPut}
 use Rattle.model.specs.Layout.{wordsOf}
 use lib.ListN.{length}
 use mathlib.Core.Path.{ap, _∙_}
 use borrow.Author.Needs.{needs}
-use Rattle.splits.proofs.writing.write_records.Statement.{statement}
-use Rattle.splits.proofs.writing.write_records.Tie as tie
+use Rattle.seams.proofs.write_records.Statement.{statement}
+use Rattle.seams.proofs.write_records.Tie as tie
 
 put-fins-requires : tie.Need-put-fins-requires
 put-fins-requires c κs = search needs

@@ -1,12 +1,12 @@
-use Rattle.splits.specs.Chain.{behind-loops}
-use Rattle.splits.specs.After.{listsPut}
+use Rattle.seams.specs.Chain.{behind-loops}
+use Rattle.seams.specs.Written.{listsPut}
 use Rattle.pieces.specs.Steps.{slots-fewer}
 use Rattle.pieces.specs.Pieces.{wiresPut}
 use lib.ListN.{length}
 use mathlib.Core.Path.{ap, _∙_}
 use borrow.Author.Needs.{needs}
-use Rattle.splits.proofs.writing.write_lists.Statement.{statement}
-use Rattle.splits.proofs.writing.write_lists.Tie as tie
+use Rattle.seams.proofs.write_lists.Statement.{statement}
+use Rattle.seams.proofs.write_lists.Tie as tie
 
 put-loops-requires : tie.Need-put-loops-requires
 put-loops-requires c κs = let s = c .before .before .before .before .before in (slots-fewer (s .args .room .now) (s .args .words .now) (length (s .args .owners .now)) (s .pre .slots), (s .pre .olds, s .pre .loops))

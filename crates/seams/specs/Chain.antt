@@ -13,8 +13,8 @@ use Rattle.halves.specs.Facts.{Roomy}
 use Rattle.pieces.specs.Pieces.{newFin, secondFields, loopsPut, finsPut, secondPut, firstPut}
 use Rattle.pieces.specs.Facts.{Slots}
 use Rattle.pieces.specs.Steps.{Stage, with, slots-kept, slots-fewer, roomy-kept, stage-loops, stage-wires, stage-fins, stage-second, stage-first, stage-vertex}
-use Rattle.splits.specs.After.{listsPut, recordsPut}
-use Rattle.splits.specs.Facts.{Ready}
+use Rattle.seams.specs.Written.{listsPut, recordsPut}
+use Rattle.seams.specs.Facts.{Ready}
 
 -- what a step asks holds behind the one before it
 go-on : (room w₀ v : List ℕ) (now : ℕ → ℕ → List ℕ) (n e : ℕ) → Stage room w₀ v now → Slots room w₀ n → e < word w₀ 6 → Slots room v n × (e < word v 6)
@@ -22,21 +22,21 @@ go-on room w₀ v now n e s f h = let c = s .counts 6 (omega arith) in (slots-ke
 
 -- ---- how the records of w₀ read behind each step
 
-module _ (w₀ : List ℕ) (e : ℕ) (owners senses : List ℕ) (old : ℕ → ℕ → List ℕ) where
-  abbrev pub withFins : ℕ → ℕ → List ℕ
-  withFins = with 5 (λ j. leb (word w₀ 5) j && ltb j (word w₀ 5 + length owners)) (λ j. newFin owners senses (word w₀ 6) (j - word w₀ 5)) old
+module _ (w₀ : List ℕ) (old : ℕ → ℕ → List ℕ) where
+  abbrev pub withWires : ℕ → ℕ → ℕ → List ℕ
+  withWires e = with 2 (λ j. ltb j (word w₀ 2)) (λ j. doubled (entriesFor (e ∷ []) (0 ∷ []) (0 ∷ []) 0 (word w₀ 6)) 514 (old 2 j)) old
 
-  abbrev pub withSecond : ℕ → ℕ → List ℕ
-  withSecond = with 6 (λ j. eqb j (word w₀ 6)) (λ _. over 0 (secondFields (old 6 e) (word w₀ 7) (word w₀ 5) (length owners)) (old 6 (word w₀ 6))) old
+  abbrev pub withFins : List ℕ → List ℕ → ℕ → ℕ → List ℕ
+  withFins owners senses = with 5 (λ j. leb (word w₀ 5) j && ltb j (word w₀ 5 + length owners)) (λ j. newFin owners senses (word w₀ 6) (j - word w₀ 5)) old
 
-  abbrev pub withFirst : ℕ → ℕ → List ℕ
-  withFirst = with 6 (λ j. eqb j e) (λ _. over 2 (1 ∷ word w₀ 7 ∷ []) (old 6 e)) old
+  abbrev pub withSecond : ℕ → ℕ → ℕ → ℕ → List ℕ
+  withSecond e n = with 6 (λ j. eqb j (word w₀ 6)) (λ _. over 0 (secondFields (old 6 e) (word w₀ 7) (word w₀ 5) n) (old 6 (word w₀ 6))) old
 
-  abbrev pub withVertex : ℕ → ℕ → List ℕ
-  withVertex = with 7 (λ j. eqb j (word w₀ 7)) (λ _. word (old 6 e) 6 ∷ []) old
+  abbrev pub withFirst : ℕ → ℕ → ℕ → List ℕ
+  withFirst e = with 6 (λ j. eqb j e) (λ _. over 2 (1 ∷ word w₀ 7 ∷ []) (old 6 e)) old
 
-  abbrev pub withWires : ℕ → ℕ → List ℕ
-  withWires = with 2 (λ j. ltb j (word w₀ 2)) (λ j. doubled (entriesFor (e ∷ []) (0 ∷ []) (0 ∷ []) 0 (word w₀ 6)) 514 (old 2 j)) old
+  abbrev pub withVertex : ℕ → ℕ → ℕ → List ℕ
+  withVertex e = with 7 (λ j. eqb j (word w₀ 7)) (λ _. word (old 6 e) 6 ∷ []) old
 
 -- ---- the records
 
@@ -48,7 +48,7 @@ module _ (room w₀ w : List ℕ) (e : ℕ) (owners senses : List ℕ) (old : �
   w₁ = finsPut room owners senses w
 
   abbrev old₁ : ℕ → ℕ → List ℕ
-  old₁ = withFins w₀ e owners senses old
+  old₁ = withFins w₀ old owners senses
 
   stage₁ : Stage room w₀ w₁ old₁
   stage₁ = stage-fins room w₀ w old s n (slots-kept room w₀ w old n s f) owners senses refl
@@ -57,7 +57,7 @@ module _ (room w₀ w : List ℕ) (e : ℕ) (owners senses : List ℕ) (old : �
   w₂ = secondPut room e n w₁
 
   abbrev old₂ : ℕ → ℕ → List ℕ
-  old₂ = withSecond w₀ e owners senses old₁
+  old₂ = withSecond w₀ old₁ e n
 
   stage₂ : Stage room w₀ w₂ old₂
   stage₂ = let g = go-on room w₀ w₁ old₁ n e stage₁ f there in stage-second room w₀ w₁ old₁ stage₁ n (g .0) e (g .1)
@@ -66,12 +66,12 @@ module _ (room w₀ w : List ℕ) (e : ℕ) (owners senses : List ℕ) (old : �
   w₃ = firstPut room e w₂
 
   abbrev old₃ : ℕ → ℕ → List ℕ
-  old₃ = withFirst w₀ e owners senses old₂
+  old₃ = withFirst w₀ old₂ e
 
   stage₃ : Stage room w₀ w₃ old₃
   stage₃ = let g = go-on room w₀ w₂ old₂ n e stage₂ f there in stage-first room w₀ w₂ old₂ stage₂ n (g .0) e (g .1)
 
-  pub records-stage : Stage room w₀ (recordsPut room e owners senses w) (withVertex w₀ e owners senses old₃)
+  pub records-stage : Stage room w₀ (recordsPut room e owners senses w) (withVertex w₀ old₃ e)
   unfolding recordsPut
   records-stage = let g = go-on room w₀ w₃ old₃ n e stage₃ f there in stage-vertex room w₀ w₃ old₃ stage₃ n (g .0) e (g .1)
 
@@ -105,7 +105,7 @@ module _ (room w : List ℕ) (e : ℕ) (fins owners senses : List ℕ) (g : Read
       rw q (slots-fewer room v₁ (length owners) (h .0), (h .1, rw (loops-stage .counts 2 (omega arith), loops-stage .counts 6 (omega arith)) wires-room))
 
   abbrev now₂ : ℕ → ℕ → List ℕ
-  now₂ = withWires w e owners senses now₁
+  now₂ = withWires w now₁ e
 
   pub lists-stage : Stage room w (listsPut room e fins owners senses w) now₂
   unfolding listsPut
@@ -119,7 +119,7 @@ module _ (room w : List ℕ) (e : ℕ) (fins owners senses : List ℕ) (g : Read
   -- ---- all records
 
   abbrev pub nowAll : ℕ → ℕ → List ℕ
-  nowAll = withVertex w e owners senses (withFirst w e owners senses (withSecond w e owners senses (withFins w e owners senses now₂)))
+  nowAll = withVertex w (withFirst w (withSecond w (withFins w now₂ owners senses) e (length owners)) e) e
 
   pub all-stage : Stage room w (recordsPut room e owners senses (listsPut room e fins owners senses w)) nowAll
   all-stage = records-stage room w (listsPut room e fins owners senses w) e owners senses now₂ lists-stage (g .slots) (g .there)

@@ -5,8 +5,8 @@ use lib.ListN.{length}
 use mathlib.Core.Path.{sym, ap, _∙_}
 use native.Mathlib.Omega.{arith}
 use borrow.Author.Needs.{needs}
-use Rattle.splits.proofs.writing.copy_fins.Statement.{statement}
-use Rattle.splits.proofs.writing.copy_fins.Tie as tie
+use Rattle.seams.proofs.copy_fins.Statement.{statement}
+use Rattle.seams.proofs.copy_fins.Tie as tie
 
 list-requires : tie.Need-list-requires
 list-requires c κs = search needs

@@ -5,8 +5,8 @@ use lib.ListN.{length}
 use mathlib.Core.Path.{sym, ap, _∙_}
 use native.Mathlib.Omega.{arith}
 use borrow.Author.Needs.{needs}
-use Rattle.splits.proofs.writing.write_words.Statement.{statement}
-use Rattle.splits.proofs.writing.write_words.Tie as tie
+use Rattle.seams.proofs.write_split.Statement.{statement}
+use Rattle.seams.proofs.write_split.Tie as tie
 
 list-requires : tie.Need-list-requires
 list-requires c κs = search needs
@@ -43,8 +43,8 @@ same-length c = search needs
 returns : tie.Need-returns
 returns c = c .before .before .before .before .before .write-read .ensures
 
-pub write-words-spec : {M : Type 1} → statement M
-write-words-spec =
+pub write-split-spec : {M : Type 1} → statement M
+write-split-spec =
     tie.close
     (tie.spec
     list-requires

@@ -1,11 +1,11 @@
-use Rattle.splits.specs.Chain.{behind-lists, behind-records}
-use Rattle.splits.specs.After.{recordsPut, splitPut}
+use Rattle.seams.specs.Chain.{behind-lists, behind-records}
+use Rattle.seams.specs.Written.{recordsPut, splitPut}
 use Rattle.pieces.specs.Pieces.{countsPut}
 use lib.ListN.{length}
 use mathlib.Core.Path.{sym, ap, _∙_}
 use borrow.Author.Needs.{needs}
-use Rattle.splits.proofs.writing.write_with.Statement.{statement}
-use Rattle.splits.proofs.writing.write_with.Tie as tie
+use Rattle.seams.proofs.write_with.Statement.{statement}
+use Rattle.seams.proofs.write_with.Tie as tie
 
 write-lists-requires : tie.Need-write-lists-requires
 write-lists-requires c κs = search needs

@@ -1,5 +1,6 @@
-// The words of a split, behind all tests: the lists, the records, their counts.
-use edits::write;
+// The words of a split, written behind all its tests: the lists, the records, their counts. `specs/Written.antt` says what they
+// become.
+use edits::write::write_words;
 use model::entries::list;
 use pieces::fins::fin_words;
 use pieces::fins::put_fins;
@@ -16,8 +17,8 @@ ghost use Rattle.model.specs.Layout.{word};
 ghost use Rattle.model.specs.Entries.{listOf};
 ghost use Rattle.model.specs.Fit.{Lists};
 ghost use Rattle.pieces.specs.Facts.{Slots};
-ghost use Rattle.splits.specs.After.{listsPut, recordsPut, splitPut, wordsSplit};
-ghost use Rattle.splits.specs.Facts.{Ready, Listing};
+ghost use Rattle.seams.specs.Written.{listsPut, recordsPut, splitPut, wordsSplit};
+ghost use Rattle.seams.specs.Facts.{Ready, Listing};
 
 // The lists of the loops and of the shells.
 fn write_lists(
@@ -72,7 +73,7 @@ fn copy_fins(room: &[usize; 10], words: &[u32], edge: usize, out: &mut [u32])
     requires { ⌜ length (now out) ≡ length (listOf (now room) (now words) 7 edge) ⌝ }
     ensures { λ _. ⌜ now (out .exit) ≡ listOf (now (room .entry)) (now (words .entry)) 7 edge ⌝ }
 {
-    write::write_words(out, 0, list(room, words, 7, edge));
+    write_words(out, 0, list(room, words, 7, edge));
 }
 
 // The fins are read before anything is written; the three lent lists may hold anything.
@@ -96,7 +97,8 @@ fn write_read(
     write_with(room, words, edge, &fins[..], &owners[..], &senses[..]);
 }
 
-pub fn write_words(room: &[usize; 10], words: &mut [u32], edge: usize)
+// All words, for an edge whose fins are read first.
+pub fn write_split(room: &[usize; 10], words: &mut [u32], edge: usize)
     requires { ⌜ Listing (now room) (now words) edge ⌝ }
     ensures { λ _. ⌜ now (words .exit) ≡ wordsSplit (now (room .entry)) (now (words .entry)) edge ⌝ }
 {
