@@ -1,5 +1,7 @@
 //! Whole models in the Rust and in lent memory, asked the same through the station's calls.
 
+#[cfg(feature = "coming")]
+pub mod coming;
 pub mod edits;
 pub mod layout;
 pub mod operations;

@@ -1,0 +1,217 @@
+//! Calls that the station does not export yet, as a C program will link them: splits, boxes, volumes and
+//! the checker. Each answer is numbers: 0 and the value's, or the refusal alone.
+
+use models::plain::bits;
+
+use crate::layout::Lent;
+use crate::ours::{Room, UNTOUCHED, UNTOUCHED_REAL, WROTE, answer};
+
+#[link(name = "station", kind = "static")]
+unsafe extern "C" {
+    fn brunskerl_split_line_edge(
+        room: Room,
+        words: *mut u32,
+        n: usize,
+        reals: *mut f64,
+        m: usize,
+        edge: usize,
+        fraction: f64,
+        value: *mut [u32; 3],
+    ) -> u32;
+    fn brunskerl_body_bounding_box(
+        room: Room,
+        words: *const u32,
+        n: usize,
+        reals: *const f64,
+        m: usize,
+        body: usize,
+        faces: *mut u8,
+        f: usize,
+        edges: *mut u8,
+        e: usize,
+        vertices: *mut u8,
+        v: usize,
+        value: *mut [f64; 6],
+    ) -> u32;
+    fn brunskerl_body_volume(
+        room: Room,
+        words: *const u32,
+        n: usize,
+        reals: *const f64,
+        m: usize,
+        body: usize,
+        faces: *mut u8,
+        f: usize,
+        value: *mut [f64; 1],
+    ) -> u32;
+    fn brunskerl_check_body(
+        room: Room,
+        words: *const u32,
+        n: usize,
+        reals: *const f64,
+        m: usize,
+        body: usize,
+        geometry: u32,
+        samples: usize,
+        faces: *mut u8,
+        f: usize,
+        edges: *mut u8,
+        e: usize,
+        list: *mut u32,
+        l: usize,
+        value: *mut [u32; 3],
+    ) -> u32;
+}
+
+fn numbers<T>(answer: Result<T, u32>, value: impl FnOnce(T) -> Vec<u64>) -> Vec<u64> {
+    match answer {
+        Ok(given) => [vec![0], value(given)].concat(),
+        Err(number) => vec![number.into()],
+    }
+}
+
+/// The answer, unless a mark is left set.
+fn cleared(marks: &[Vec<u8>], answer: Vec<u64>) -> Vec<u64> {
+    if marks.iter().flatten().any(|&mark| mark != 0) {
+        return vec![WROTE.into()];
+    }
+    answer
+}
+
+impl Lent {
+    /// Both edges and the vertex. A refusal must leave all memory as it was.
+    pub fn split(&mut self, edge: usize, fraction: f64) -> Vec<u64> {
+        let before = self.clone();
+        let mut value = [UNTOUCHED; 3];
+        // SAFETY: the call writes to the lent memory and to the value, and keeps no address.
+        let number = unsafe {
+            brunskerl_split_line_edge(
+                &self.room,
+                self.words.as_mut_ptr(),
+                self.words.len(),
+                self.reals.as_mut_ptr(),
+                self.reals.len(),
+                edge,
+                fraction,
+                &mut value,
+            )
+        };
+        if number != 0 && *self != before {
+            return vec![WROTE.into()];
+        }
+        numbers(answer(number, value, value == [UNTOUCHED; 3]), |ids| {
+            ids.map(u64::from).to_vec()
+        })
+    }
+
+    /// Marks of faces, edges and vertices, lent full.
+    fn marks(&self, mark: u8) -> [Vec<u8>; 3] {
+        [3, 6, 7].map(|k| vec![mark; self.room[k]])
+    }
+
+    /// The bits of both corners.
+    pub fn bounding_box(&self, body: usize, mark: u8) -> Vec<u64> {
+        let mut marks = self.marks(mark);
+        let [faces, edges, vertices] = &mut marks;
+        let mut value = [UNTOUCHED_REAL; 6];
+        // SAFETY: the call reads the lent memory, writes to the marks and the value, and keeps no address.
+        let number = unsafe {
+            brunskerl_body_bounding_box(
+                &self.room,
+                self.words.as_ptr(),
+                self.words.len(),
+                self.reals.as_ptr(),
+                self.reals.len(),
+                body,
+                faces.as_mut_ptr(),
+                faces.len(),
+                edges.as_mut_ptr(),
+                edges.len(),
+                vertices.as_mut_ptr(),
+                vertices.len(),
+                &mut value,
+            )
+        };
+        let untouched = value == [UNTOUCHED_REAL; 6];
+        let given = numbers(answer(number, value, untouched), |six| {
+            six.map(bits).to_vec()
+        });
+        cleared(&marks, given)
+    }
+
+    pub fn volume(&self, body: usize, mark: u8) -> Vec<u64> {
+        let mut marks = self.marks(mark);
+        let faces = &mut marks[0];
+        let mut value = [UNTOUCHED_REAL; 1];
+        // SAFETY: as above.
+        let number = unsafe {
+            brunskerl_body_volume(
+                &self.room,
+                self.words.as_ptr(),
+                self.words.len(),
+                self.reals.as_ptr(),
+                self.reals.len(),
+                body,
+                faces.as_mut_ptr(),
+                faces.len(),
+                &mut value,
+            )
+        };
+        let untouched = value == [UNTOUCHED_REAL; 1];
+        let given = numbers(answer(number, value, untouched), |v| v.map(bits).to_vec());
+        cleared(&marks[..1], given)
+    }
+
+    /// `unchecked`, then reason, kind, class and id of each fault that was kept, of a list of so many
+    /// places; and the full number of faults.
+    pub fn check(
+        &self,
+        body: usize,
+        geometry: bool,
+        samples: usize,
+        places: usize,
+        mark: u8,
+    ) -> (Vec<u64>, usize) {
+        let mut marks = self.marks(mark);
+        let [faces, edges, _] = &mut marks;
+        let mut list = vec![UNTOUCHED; 4 * places];
+        let mut value = [UNTOUCHED; 3];
+        // SAFETY: as above, and it writes to the list.
+        let number = unsafe {
+            brunskerl_check_body(
+                &self.room,
+                self.words.as_ptr(),
+                self.words.len(),
+                self.reals.as_ptr(),
+                self.reals.len(),
+                body,
+                geometry.into(),
+                samples,
+                faces.as_mut_ptr(),
+                faces.len(),
+                edges.as_mut_ptr(),
+                edges.len(),
+                list.as_mut_ptr(),
+                list.len(),
+                &mut value,
+            )
+        };
+        let [faults, kept, unchecked] = value;
+        if number != 0 {
+            let untouched = value == [UNTOUCHED; 3] && list.iter().all(|&x| x == UNTOUCHED);
+            let given = if untouched { number } else { WROTE };
+            return (cleared(&marks[..2], vec![given.into()]), 0);
+        }
+        let front = 4 * (kept as usize).min(places);
+        let rest = &list[front..];
+        if kept != faults.min(places as u32) || rest.iter().any(|&x| x != UNTOUCHED) {
+            return (vec![WROTE.into()], 0);
+        }
+        let faults_kept = list[..front].chunks(4).flat_map(|fault| {
+            let [kind, class, id, reason] = [0, 1, 2, 3].map(|k| u64::from(fault[k]));
+            [reason, kind, class, id]
+        });
+        let given = [0, unchecked.into()].into_iter().chain(faults_kept).collect();
+        (cleared(&marks[..2], given), faults as usize)
+    }
+}
