@@ -1,32 +1,28 @@
 -- The box of a walk as the code makes it. Assumes nothing.
-use Prim.Native.Nat.{ℕ, zero, suc, _+_, _≤_, _<_}
+use Prim.Native.Nat.{ℕ, _+_, _<_}
 use native.Mathlib.Omega.{arith}
-use native.Mathlib.Nat.{le-trans}
-use mathlib.Core.Path.{_≡_, refl, sym, ap, _∙_}
+use mathlib.Core.Path.{_≡_, sym, ap, _∙_}
 use mathlib.Core.Bool.{Bool, true, false, _&&_}
 use mathlib.Core.List.{List, [], _∷_, _++_, map}
-use lib.Dec.{eqb, ltb}
+use lib.Dec.{ltb}
 use lib.ListN.{length, getD, take, length-map}
 use lib.Ieee.{Float}
 use Rattle.vectors.specs.declared.vector.Point3.{Point3}
-use Rattle.vectors.specs.Space.{finitePoint}
 use Rattle.geometry.specs.Refuse.{_unless_, _then_, answer}
 use Rattle.meaning.specs.Lists.{all, firsts}
-use Rattle.meaning.specs.Model.{Model, has, pointOf}
+use Rattle.meaning.specs.Model.{has, pointOf}
 use Rattle.meaning.specs.Walks.{vertexWalk, verticesRefusal}
-use Rattle.meaning.specs.Refuse.{_if_}
 use Rattle.meaning.specs.Inquire.{requirePolyhedral, boxOf, boxRefusal}
 use Rattle.lists.specs.Tests.{refused-answer}
-use Rattle.lists.specs.Lists.{all-firsts}
 use Rattle.model.specs.Layout.{word}
 use Rattle.model.specs.Decode.{decode}
 use Rattle.model.specs.Readable.{readable}
 use Rattle.figures.specs.declared.bbox.Extent.{Extent}
-use Rattle.figures.specs.Figures.{seenBox, allFinite, extentOf}
+use Rattle.figures.specs.Figures.{seenBox, extentOf}
 use Rattle.figures.specs.Laws.{finite-map}
 use Rattle.walks.specs.Calls.{reach}
 use Rattle.walks.specs.Decoded.{refusedBy}
-use Rattle.walks.specs.Laws.{all-firsts-same, accepted, refused-before}
+use Rattle.walks.specs.Laws.{all-firsts-same, refused-before}
 use Rattle.polyhedral.specs.Laws.{map-turn, polyhedral-vertices}
 use Rattle.boxes.specs.declared.BoxFound.{BoxFound}
 use Rattle.boxes.specs.declared.BoxFound.the-variants.{Is, Refused}

@@ -1,7 +1,7 @@
 // `body_bounding_box` of inquire.rs. specs/Answers.antt says what it answers.
-pub mod points;
+pub mod extents;
 
-use crate::points::path_box;
+use crate::extents::path_box;
 use figures::bbox::Aabb;
 use marks::clear;
 use paths::vertex_path;

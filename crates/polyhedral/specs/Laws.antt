@@ -1,7 +1,6 @@
 -- The first refusal over a walk is that over all that is listed; the tests one after the other, and what they leave known. Assumes nothing.
 use Prim.Native.Nat.{ℕ, zero, suc, _+_, _<_}
-use native.Mathlib.Omega.{arith}
-use mathlib.Core.Path.{_≡_, refl, sym, ap, _∙_, subst}
+use mathlib.Core.Path.{_≡_, refl, sym, ap, _∙_}
 use mathlib.Core.Bool.{Bool, true, false, cond, not, _&&_, _||_, false≢true}
 use mathlib.Core.List.{List, [], _∷_, _++_, map}
 use mathlib.Core.Option.{none, some}
@@ -12,24 +11,24 @@ use borrow.Author.Tests.{eqb-true}
 use Rattle.geometry.specs.Refuse.{_unless_, _then_}
 use Rattle.store.specs.Queries.{lineRefusal, planeRefusal}
 use Rattle.meaning.specs.Lists.{all, member, joined, meet, meets, firsts, the, isSome}
-use Rattle.meaning.specs.Model.{Model, has, curve, surface}
+use Rattle.meaning.specs.Model.{curve, surface}
 use Rattle.meaning.specs.Walks.{faceWalk, edgeWalk, facesRefusal, edgesRefusal, verticesRefusal}
 use Rattle.meaning.specs.Refuse.{firstOf}
 use Rattle.meaning.specs.Inquire.{flatFace, straightEdge, requirePolyhedral}
-use Rattle.lists.specs.Tests.{and-both, then-zero, then-none, then-assoc, unless-zero, firstOf-none, firstOf-append, firstOf-snoc}
+use Rattle.lists.specs.Tests.{then-zero, then-none, then-assoc, unless-zero, firstOf-none, firstOf-append, firstOf-snoc}
 use Rattle.lists.specs.Lists.{meet-old, meet-new}
 use Rattle.model.specs.Layout.{word, wordsOf}
-use Rattle.model.specs.Decode.{decode, flagAt, maybeAt}
+use Rattle.model.specs.Decode.{decode, flagAt}
 use Rattle.model.specs.Readable.{readable}
 use Rattle.model.specs.Fit.{Fit}
 use Rattle.model.specs.Laws.{fit-of}
 use Rattle.marks.specs.Laws.{take-more, joined-turn}
 use Rattle.visits.specs.Visits.{idsOf}
-use Rattle.paths.specs.Paths.{facePath, faceList, edgePath, edgeList, bodyFollowed, facesThere, loopsFollowed, edgesThere, Shelled, Faced, Looped, Edged}
+use Rattle.paths.specs.Paths.{facePath, faceList, edgePath, edgeList, bodyFollowed, facesThere, loopsFollowed, edgesThere, Edged}
 use Rattle.paths.specs.Laws.{shelled-of, faced-of, looped-of, edged-of}
 use Rattle.bounds.specs.Laws.{refuses}
 use Rattle.walks.specs.Decoded.{refusedBy}
-use Rattle.walks.specs.Laws.{face-list, edge-list, faces-refusal, edges-refusal, vertices-refusal, all-firsts-same, accepted}
+use Rattle.walks.specs.Laws.{face-list, edge-list, faces-refusal, edges-refusal, vertices-refusal, accepted}
 use Rattle.polyhedral.specs.Carried.{carried}
 
 -- ---- the first refusal of a list

@@ -1,9 +1,9 @@
 // Are all faces of a body planes, and all its edges straight (`require_polyhedral` of inquire.rs)? A repeated id gives the same number
 // again, so what a walk lists is tested where it is listed, without a list of first meetings.
 pub mod carriers;
-pub mod listed;
+pub mod walked;
 
-use crate::listed::path_refusal;
+use crate::walked::path_refusal;
 use model::readable::readable;
 use paths::body_followed;
 use paths::edge_path;

@@ -1,19 +1,19 @@
 -- The tests of a side, and what they leave known. Assumes nothing.
-use Prim.Native.Nat.{ℕ, zero, suc, _+_, _≤_, _<_}
+use Prim.Native.Nat.{ℕ, suc, _≤_, _<_}
 use native.Mathlib.Omega.{arith}
 use native.Mathlib.Numerals.{add-one}
-use mathlib.Core.Path.{_≡_, refl, sym, ap, _∙_}
+use mathlib.Core.Path.{_≡_, refl, ap, _∙_}
 use mathlib.Core.Bool.{Bool, true, false, not, cond, _&&_}
 use mathlib.Core.List.{List, [], _∷_, map}
 use mathlib.Core.Option.{none, some}
-use lib.Dec.{eqb, ltb, leb}
-use lib.ListN.{length, getD}
+use lib.Dec.{eqb, ltb}
+use lib.ListN.{length}
 use lib.Ieee.{Float}
 use borrow.Author.Tests.{ltb-true, eqb-true}
 use Rattle.geometry.specs.Refuse.{_unless_, _then_}
 use Rattle.meaning.specs.Lists.{all, is}
 use Rattle.meaning.specs.Refuse.{_if_, firstOf}
-use Rattle.meaning.specs.Inquire.{Side, alike, inward, outward, rim, startRefusal, sideRefusal, polygonVolume, sideVolume}
+use Rattle.meaning.specs.Inquire.{Side, alike, startRefusal, sideRefusal, polygonVolume, sideVolume}
 use Rattle.lists.specs.Tests.{and-both, then-zero, then-assoc, unless-zero}
 use Rattle.model.specs.Layout.{word, wordsOf}
 use Rattle.model.specs.Decode.{flagAt, maybeAt, decode}

@@ -1,5 +1,5 @@
 -- A side off the lent words. No reader of a public promise needs this file. Definitions only.
-use Prim.Native.Nat.{ℕ, suc, _+_, _<_}
+use Prim.Native.Nat.{ℕ, _+_}
 use mathlib.Core.Bool.{Bool, _&&_}
 use mathlib.Core.List.{List}
 use lib.Dec.{eqb, ltb}

@@ -1,26 +1,25 @@
 -- The starts of fins off the lent words are those of the model. Assumes nothing.
-use Prim.Native.Nat.{ℕ, zero, suc, _+_, _*_, _≤_, _<_}
+use Prim.Native.Nat.{ℕ, zero, suc, _+_, _*_, _<_}
 use native.Mathlib.Omega.{arith}
 use native.Mathlib.Numerals.{add-one}
 use mathlib.Core.Path.{_≡_, refl, sym, ap, _∙_}
-use mathlib.Core.Bool.{Bool, true, false, not, cond, _&&_, false≢true}
+use mathlib.Core.Bool.{Bool, true, false, not, cond, false≢true}
 use mathlib.Core.List.{List, [], _∷_, _++_, map}
-use mathlib.Core.Option.{Option, none, some}
+use mathlib.Core.Option.{none, some}
 use lib.Dec.{eqb, ltb}
 use lib.ListN.{length, getD, take}
 use lib.Ieee.{Float}
 use borrow.Author.Tests.{ltb-true}
 use Rattle.vectors.specs.declared.vector.Point3.{Point3}
 use Rattle.geometry.specs.Refuse.{_unless_, _then_}
-use Rattle.meaning.specs.Lists.{all, the, isSome}
-use Rattle.meaning.specs.Model.{Model, Edge, positive, negative, has, edge, pointOf}
+use Rattle.meaning.specs.Lists.{the, isSome}
+use Rattle.meaning.specs.Model.{Edge, positive, negative, edge, pointOf}
 use Rattle.meaning.specs.Walks.{directed}
 use Rattle.meaning.specs.Refuse.{firstOf}
 use Rattle.meaning.specs.Inquire.{startOf, startRefusal}
 use Rattle.lists.specs.Tests.{and-both, then-zero, unless-zero}
 use Rattle.model.specs.Layout.{word, wordsOf}
 use Rattle.model.specs.Decode.{flagAt, maybeAt, decode}
-use Rattle.model.specs.Fit.{Lists}
 use Rattle.parts.specs.Parts.{finEdge}
 use Rattle.figures.specs.Figures.{pointsOf, withPoint}
 use Rattle.figures.specs.Laws.{point-more}

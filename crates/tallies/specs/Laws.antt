@@ -2,17 +2,17 @@
 use Prim.Native.Nat.{ℕ, zero, suc, _+_, _<_}
 use native.Mathlib.Omega.{arith}
 use mathlib.Core.Path.{_≡_, refl, sym, ap, _∙_}
-use mathlib.Core.Bool.{Bool, true, false, not, cond, _&&_}
+use mathlib.Core.Bool.{Bool, true, false, cond}
 use mathlib.Core.List.{List, [], _∷_, _++_, map, append-nil, append-assoc}
 use lib.Dec.{eqb, ltb}
 use lib.ListN.{length, getD, take}
-use lib.Ieee.{Float, binary64, ofBits}
-use borrow.Author.Tests.{eq-eqb, ne-eqb, ltb-true}
+use lib.Ieee.{Float}
+use borrow.Author.Tests.{ne-eqb}
 use Rattle.numbers.specs.Ops.{zeroF}
 use Rattle.vectors.specs.Space.{_+ᶠ_}
-use Rattle.geometry.specs.Refuse.{_unless_, _then_}
+use Rattle.geometry.specs.Refuse.{_then_}
 use Rattle.meaning.specs.Lists.{all, joined}
-use Rattle.meaning.specs.Model.{Model, region, shell}
+use Rattle.meaning.specs.Model.{Model, shell}
 use Rattle.meaning.specs.Inquire.{Side, sidesOf, sideRefusal, sidesRefusal, sideVolume, sumVolumes}
 use Rattle.lists.specs.Tests.{and-both, then-none, then-assoc}
 use Rattle.lists.specs.Lists.{all-none, joined-none, joined-snoc}
@@ -23,7 +23,6 @@ use Rattle.marks.specs.Laws.{take-more}
 use Rattle.parts.specs.Parts.{followed}
 use Rattle.parts.specs.Laws.{followed-slot, followed-entries}
 use Rattle.polyhedral.specs.Laws.{map-turn}
-use Rattle.sides.specs.Sides.{faceWhole, sideNumber}
 use Rattle.tallies.specs.declared.Tally.{Tally}
 use Rattle.tallies.specs.Tallies.{tallyOf, regionSides, solidShells, facesWhole, regionWhole}
 

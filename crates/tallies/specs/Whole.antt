@@ -15,7 +15,7 @@ use Rattle.model.specs.Decode.{decode}
 use Rattle.model.specs.Entries.{listOf}
 use Rattle.model.specs.Fit.{Lists}
 use Rattle.parts.specs.Parts.{finEdge, followed}
-use Rattle.paths.specs.Paths.{shellList, faceList, loopList, edgeList, Edged}
+use Rattle.paths.specs.Paths.{faceList, loopList, Edged}
 use Rattle.paths.specs.Laws.{faces-exist, edges-exist}
 use Rattle.walks.specs.Laws.{face-list, edge-list, all-firsts-same}
 use Rattle.starts.specs.Starts.{finWhole}

@@ -2,17 +2,17 @@
 use Prim.Native.Nat.{ℕ, zero, suc, _≤_}
 use native.Mathlib.Omega.{arith}
 use mathlib.Core.Path.{_≡_, refl, sym, ap, _∙_}
-use mathlib.Core.Bool.{Bool, true, false, not, cond}
-use mathlib.Core.List.{List, []}
+use mathlib.Core.Bool.{Bool, true, false}
+use mathlib.Core.List.{List}
 use lib.Dec.{eqb}
 use lib.ListN.{length}
 use lib.Ieee.{Float}
 use Rattle.numbers.specs.Ops.{zeroF}
 use Rattle.geometry.specs.Refuse.{_unless_, _then_, answer}
 use Rattle.meaning.specs.Lists.{joined}
-use Rattle.meaning.specs.Model.{body, general}
+use Rattle.meaning.specs.Model.{body}
 use Rattle.meaning.specs.Refuse.{_if_}
-use Rattle.meaning.specs.Inquire.{Side, requirePolyhedral, isSolid, solidSides, sidesRefusal, sumVolumes, volumeRefusal}
+use Rattle.meaning.specs.Inquire.{requirePolyhedral, isSolid, solidSides, sidesRefusal, sumVolumes, volumeRefusal}
 use Rattle.lists.specs.Tests.{refused-answer}
 use Rattle.model.specs.Layout.{word, wordsOf}
 use Rattle.model.specs.Decode.{decode, kindOf}

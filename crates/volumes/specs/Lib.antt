@@ -1,3 +1,4 @@
 pub mod Answers
+pub mod Statements
 pub mod Told
 pub mod Laws

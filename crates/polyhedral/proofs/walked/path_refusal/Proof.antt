@@ -1,4 +1,4 @@
--- `polyhedral::listed::path_refusal` meets its contract: a turn of the loop is one source more. Assumes nothing.
+-- `polyhedral::walked::path_refusal` meets its contract: a turn of the loop is one source more. Assumes nothing.
 use Prim.Native.Nat.{_≤_, _-_}
 use borrow.Author.Needs.{needs}
 use native.Mathlib.Omega.{arith}
@@ -14,8 +14,8 @@ use Rattle.parts.specs.Parts.{partOf}
 use Rattle.visits.specs.Laws.{took-front, took-length}
 use Rattle.polyhedral.specs.Carried.{carried}
 use Rattle.polyhedral.specs.Laws.{path-turn}
-use Rattle.polyhedral.proofs.listed.path_refusal.Statement.{statement}
-use Rattle.polyhedral.proofs.listed.path_refusal.Tie as tie
+use Rattle.polyhedral.proofs.walked.path_refusal.Statement.{statement}
+use Rattle.polyhedral.proofs.walked.path_refusal.Tie as tie
 
 abbrev Inv-loop : tie.InvT-loop
 Inv-loop room words reals edges path buf₀ n₀ p₀ buf n p = (p ≤ length path) × (length buf ≡ 1024) × (n ≡ firstOf (carried (decode room words reals) edges) (joined (partOf room words) (take p path)))

@@ -1,4 +1,4 @@
--- `polyhedral::listed::ids_refusal` meets its contract: a turn of the loop is one id more. Assumes nothing.
+-- `polyhedral::walked::ids_refusal` meets its contract: a turn of the loop is one id more. Assumes nothing.
 use Prim.Native.Nat.{_≤_, _-_}
 use borrow.Author.Needs.{needs}
 use native.Mathlib.Omega.{arith}
@@ -10,8 +10,8 @@ use Rattle.lists.specs.Tests.{firstOf-none}
 use Rattle.model.specs.Decode.{decode}
 use Rattle.polyhedral.specs.Carried.{carried}
 use Rattle.polyhedral.specs.Laws.{first-turn}
-use Rattle.polyhedral.proofs.listed.ids_refusal.Statement.{statement}
-use Rattle.polyhedral.proofs.listed.ids_refusal.Tie as tie
+use Rattle.polyhedral.proofs.walked.ids_refusal.Statement.{statement}
+use Rattle.polyhedral.proofs.walked.ids_refusal.Tie as tie
 
 abbrev Inv-loop : tie.InvT-loop
 Inv-loop room words reals edges ids n₀ k₀ n k = (k ≤ length ids) × (n ≡ firstOf (carried (decode room words reals) edges) (take k ids))
