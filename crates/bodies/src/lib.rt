@@ -1,0 +1,95 @@
+// What is found of a body (`body` of gensolid-check's lib.rs).
+use entity::records::BodyKind;
+use entity::slots::body_at;
+use manifold::manifold_edges;
+use model::entries::list;
+use reasons::Tally;
+use shells::all_regions;
+use shells::region_layout;
+use walks::refusals::edges_refusal;
+ghost use mathlib.Core.Path.{_≡_};
+ghost use mathlib.Core.Bool.{true};
+ghost use Prim.Native.Nat.{_≤_, _<_};
+ghost use lib.ListN.{length, replicate};
+ghost use Rattle.meaning.specs.Faults.{manifoldEdges, findings};
+ghost use Rattle.model.specs.Layout.{word};
+ghost use Rattle.model.specs.Decode.{decode};
+ghost use Rattle.model.specs.Readable.{readable};
+ghost use Rattle.reasons.specs.Log.{Noted, Enough};
+ghost use Rattle.loops.specs.Loops.{options};
+ghost use Rattle.bodies.specs.Bodies.{nothingYet, solidKind};
+
+fn is_solid(kind: BodyKind) -> bool
+    ensures { λ r. ⌜ r ≡ solidKind kind ⌝ }
+{
+    match kind {
+        BodyKind::Acorn => false,
+        BodyKind::Wire => false,
+        BodyKind::Sheet => false,
+        BodyKind::Solid => true,
+        BodyKind::General => false,
+    }
+}
+
+// The manifold edges of a solid whose edges can be walked. The marks come all zero and are left so.
+fn solid_edges(
+    room: &[usize; 10],
+    words: &[u32],
+    reals: &[f64],
+    nums: &mut [u32],
+    t: Tally,
+    body: usize,
+    faces: &mut [u8],
+    edges: &mut [u8],
+) -> Tally
+    requires { ⌜ readable (now room) (now words) (now reals) ≡ true ⌝ }
+    requires { ⌜ body < word (now words) 0 ⌝ }
+    requires { ⌜ now faces ≡ replicate (length (now faces)) 0 ⌝ }
+    requires { ⌜ now edges ≡ replicate (length (now edges)) 0 ⌝ }
+    requires { ⌜ Enough t (manifoldEdges (decode (now room) (now words) (now reals)) body) ⌝ }
+    ensures { λ r. ⌜ Noted (manifoldEdges (decode (now (room .entry)) (now (words .entry)) (now (reals .entry))) body) (now (nums .entry)) t (now (nums .exit)) r ⌝ }
+    ensures { λ _. ⌜ now (faces .exit) ≡ replicate (length (now (faces .entry))) 0 ⌝ }
+    ensures { λ _. ⌜ now (edges .exit) ≡ replicate (length (now (edges .entry))) 0 ⌝ }
+{
+    let it = body_at(room, words, body);
+    let kind = it.kind;
+    if !is_solid(kind) {
+        return t;
+    }
+    let refused = edges_refusal(room, words, reals, true, body, faces);
+    if refused != 0 {
+        return t;
+    }
+    manifold_edges(room, words, reals, nums, t, body, faces, edges)
+}
+
+// The region layout, the regions, then the manifold edges of a solid.
+pub fn body_findings(
+    room: &[usize; 10],
+    words: &[u32],
+    reals: &[f64],
+    nums: &mut [u32],
+    geometry: bool,
+    n: u32,
+    body: usize,
+    faces: &mut [u8],
+    edges: &mut [u8],
+) -> Tally
+    requires { ⌜ readable (now room) (now words) (now reals) ≡ true ⌝ }
+    requires { ⌜ (n ≤ 255) × (body < word (now words) 0) ⌝ }
+    requires { ⌜ now faces ≡ replicate (length (now faces)) 0 ⌝ }
+    requires { ⌜ now edges ≡ replicate (length (now edges)) 0 ⌝ }
+    ensures { λ r. ⌜ Noted (findings (decode (now (room .entry)) (now (words .entry)) (now (reals .entry))) (options geometry n) body) (now (nums .entry)) nothingYet (now (nums .exit)) r ⌝ }
+    ensures { λ _. ⌜ now (faces .exit) ≡ replicate (length (now (faces .entry))) 0 ⌝ }
+    ensures { λ _. ⌜ now (edges .exit) ≡ replicate (length (now (edges .entry))) 0 ⌝ }
+{
+    let t = Tally {
+        faults: 0,
+        unchecked: 0,
+    };
+    let b = body as u32;
+    let regions = list(room, words, 0, body);
+    let laid = region_layout(room, words, reals, nums, t, b, regions);
+    let told = all_regions(room, words, reals, nums, laid, geometry, n, b, regions);
+    solid_edges(room, words, reals, nums, told, body, faces, edges)
+}
