@@ -1,0 +1,163 @@
+// `check_body` of gensolid-check's lib.rs over lent memory, its faults in plain numbers, four to a fault; and fit to saw (01, "Faults").
+// specs/Calls.antt says which number, which report and which words.
+use bodies::body_findings;
+use marks::clear;
+use model::readable::readable;
+ghost use mathlib.Core.Path.{_≡_};
+ghost use mathlib.Core.Bool.{true, cond};
+ghost use Prim.Native.Nat.{_≤_, _<_, _/_};
+ghost use lib.Dec.{ltb};
+ghost use lib.ListN.{length, replicate};
+ghost use Rattle.meaning.specs.Faults.{counts, kept};
+ghost use Rattle.model.specs.Layout.{word};
+ghost use Rattle.model.specs.Decode.{decode};
+ghost use Rattle.model.specs.Readable.{readable};
+ghost use Rattle.reasons.specs.Log.{faultsWords};
+ghost use Rattle.walks.specs.Calls.{inFront};
+ghost use Rattle.walks.specs.Decoded.{refusedBy};
+ghost use Rattle.checker.specs.Calls.{asked, reportOn, seenCounts, checkAnswer, checkWords, fitAnswer};
+ghost use Rattle.checker.specs.Facts.{askRefusal};
+
+// How many faults there are, how many were kept, and how many checks could not be made.
+pub struct Counts {
+    pub faults: usize,
+    pub kept: usize,
+    pub unchecked: usize,
+}
+
+// The report's counts, or the refusal's number.
+pub enum Checked {
+    Is(Counts),
+    Refused(u32),
+}
+
+// Whether a body is fit to saw, or the refusal's number.
+pub enum Sawable {
+    Is(bool),
+    Refused(u32),
+}
+
+// 9, 8 for short marks, 1 for too many samples, 2 for no such body.
+fn refusal(
+    room: &[usize; 10],
+    words: &[u32],
+    reals: &[f64],
+    enough: bool,
+    samples: usize,
+    body: usize,
+) -> u32
+    ensures { λ r. ⌜ r ≡ refusedBy (readable (now (room .entry)) (now (words .entry)) (now (reals .entry))) enough (askRefusal (decode (now (room .entry)) (now (words .entry)) (now (reals .entry))) samples body) ⌝ }
+{
+    if !readable(room, words, reals) {
+        return 9;
+    }
+    if !enough {
+        return 8;
+    }
+    if 255 < samples {
+        return 1;
+    }
+    if words[0] as usize <= body {
+        return 2;
+    }
+    0
+}
+
+// As many of the first as fit.
+fn kept_of(faults: usize, space: usize) -> usize
+    ensures { λ r. ⌜ r ≡ cond (ltb faults space) faults space ⌝ }
+{
+    if faults < space {
+        return faults;
+    }
+    space
+}
+
+// The report, its faults put into as many whole entries as the list has. The marks come all zero and are left so.
+fn check(
+    room: &[usize; 10],
+    words: &[u32],
+    reals: &[f64],
+    nums: &mut [u32],
+    geometry: bool,
+    n: u32,
+    body: usize,
+    faces: &mut [u8],
+    edges: &mut [u8],
+) -> Counts
+    requires { ⌜ readable (now room) (now words) (now reals) ≡ true ⌝ }
+    requires { ⌜ (n ≤ 255) × (body < word (now words) 0) ⌝ }
+    requires { ⌜ now faces ≡ replicate (length (now faces)) 0 ⌝ }
+    requires { ⌜ now edges ≡ replicate (length (now edges)) 0 ⌝ }
+    ensures { λ r. ⌜ r ≡ seenCounts (counts (length (now (nums .entry)) / 4) (reportOn (now (room .entry)) (now (words .entry)) (now (reals .entry)) body (asked geometry n))) ⌝ }
+    ensures { λ _. ⌜ now (nums .exit) ≡ inFront (faultsWords (kept (length (now (nums .entry)) / 4) (reportOn (now (room .entry)) (now (words .entry)) (now (reals .entry)) body (asked geometry n)))) (now (nums .entry)) ⌝ }
+    ensures { λ _. ⌜ now (faces .exit) ≡ replicate (length (now (faces .entry))) 0 ⌝ }
+    ensures { λ _. ⌜ now (edges .exit) ≡ replicate (length (now (edges .entry))) 0 ⌝ }
+{
+    let space = nums.len() / 4;
+    let end = 4 * space;
+    let t = body_findings(
+        room,
+        words,
+        reals,
+        &mut nums[..end],
+        geometry,
+        n,
+        body,
+        faces,
+        edges,
+    );
+    Counts {
+        faults: t.faults,
+        kept: kept_of(t.faults, space),
+        unchecked: t.unchecked,
+    }
+}
+
+// Checks a body. `faces` and `edges` are seen marks; `nums` gets the faults, four words each: kind, class by its table, id, reason.
+pub fn check_body(
+    room: &[usize; 10],
+    words: &[u32],
+    reals: &[f64],
+    body: usize,
+    geometry: bool,
+    samples: usize,
+    faces: &mut [u8],
+    edges: &mut [u8],
+    nums: &mut [u32],
+) -> Checked
+    ensures answer { λ r. ⌜ r ≡ checkAnswer (now (room .entry)) (now (words .entry)) (now (reals .entry)) body (asked geometry samples) (now (faces .entry)) (now (edges .entry)) (now (nums .entry)) ⌝ }
+    ensures list { λ _. ⌜ now (nums .exit) ≡ checkWords (now (room .entry)) (now (words .entry)) (now (reals .entry)) body (asked geometry samples) (now (faces .entry)) (now (edges .entry)) (now (nums .entry)) ⌝ }
+    ensures faces { λ _. ⌜ now (faces .exit) ≡ replicate (length (now (faces .entry))) 0 ⌝ }
+    ensures edges { λ _. ⌜ now (edges .exit) ≡ replicate (length (now (edges .entry))) 0 ⌝ }
+{
+    let enough = (room[3] <= faces.len()) & (room[6] <= edges.len());
+    clear(faces);
+    clear(edges);
+    let number = refusal(room, words, reals, enough, samples, body);
+    if number != 0 {
+        return Checked::Refused(number);
+    }
+    let n = samples as u32;
+    Checked::Is(check(room, words, reals, nums, geometry, n, body, faces, edges))
+}
+
+// Fit to saw: geometry on, three samples, no fault and nothing unchecked.
+pub fn fit_to_saw(
+    room: &[usize; 10],
+    words: &[u32],
+    reals: &[f64],
+    body: usize,
+    faces: &mut [u8],
+    edges: &mut [u8],
+) -> Sawable
+    ensures answer { λ r. ⌜ r ≡ fitAnswer (now (room .entry)) (now (words .entry)) (now (reals .entry)) body (now (faces .entry)) (now (edges .entry)) ⌝ }
+    ensures faces { λ _. ⌜ now (faces .exit) ≡ replicate (length (now (faces .entry))) 0 ⌝ }
+    ensures edges { λ _. ⌜ now (edges .exit) ≡ replicate (length (now (edges .entry))) 0 ⌝ }
+{
+    let mut none: [u32; 0] = [];
+    match check_body(room, words, reals, body, true, 3, faces, edges, &mut none) {
+        Checked::Refused(n) => Sawable::Refused(n),
+        Checked::Is(counts) => Sawable::Is((counts.faults == 0) & (counts.unchecked == 0)),
+    }
+}
