@@ -17,18 +17,20 @@ use Rattle.model.specs.Layout.{wordStrides, realStrides, word, real, wordAt, re
 use Rattle.model.specs.Decode.{decode}
 use Rattle.model.specs.Entries.{listOf}
 use Rattle.model.specs.Fit.{Inside}
-use Rattle.model.specs.Laws.{before-tables}
+use Rattle.model.specs.Laws.{before-tables, words-length, used-inside}
 use Rattle.frame.specs.Put.{over, putReals}
 use Rattle.frame.specs.Over.{length-over, part-behind, entry-before, entry-behind, entry-written}
 use Rattle.frame.specs.Frame.{length-put, put-there, put-elsewhere, put-before}
 use Rattle.listed.specs.Answers.{withList}
+use Rattle.listed.specs.Records.{word-length, word-behind}
 use Rattle.beside.specs.Beside.{entriesFor, doubled}
 use Rattle.pieces.specs.Pieces.{finWords, newFin, secondFields, countsPut, floatsPut}
 use Rattle.pieces.specs.Facts.{Slots}
+use Rattle.pieces.specs.Laws.{edge-long, second-long}
 use Rattle.pieces.specs.Steps.{Stage}
 use Rattle.seams.specs.Written.{listsPut, recordsPut, splitPut, wordsSplit}
 use Rattle.splits.specs.After.{realsSplit}
-use Rattle.splits.specs.Rooms.{Accepted, ready, slots}
+use Rattle.splits.specs.Rooms.{Accepted, ready, loop-fits, shell-fits}
 use Rattle.seams.specs.Chain.{nowAll, all-stage}
 
 -- ---- a record's floats, behind a write of others
@@ -185,6 +187,35 @@ module _ (room w : List ℕ) (x : List Float) (e : ℕ) (t : Float) (a : Accepte
 
   pub new-vertex : wordsOf room w′ 7 (word w 7) ≡ word first-half 6 ∷ []
   new-vertex = reads 7 (word w 7) (room-kept .vertices) ∙ rw (eq-eqb (word w 7) (word w 7) refl, eq-eqb e e refl, apart) refl
+
+  -- ---- what the split does not use
+
+  -- a place behind the entries of a loop, of a shell, of the new edge holds what it held
+  pub loop-place : (j q : ℕ) → j < word w 4 → 1 + word (wordsOf room w′ 4 j) 1 < q → word (wordsOf room w′ 4 j) q ≡ word (wordsOf room w 4 j) q
+  loop-place j q h g =
+      let r = words-length room w 4 j (used-inside room w x 4 j (a .fit .sized) (omega arith) h .0) in
+      let new : List ℕ = joined (entriesFor fins owners senses j (word w 5)) (listOf room w 6 j) in
+      let f = loop-fits room w x e t a j h in
+      let c = ap (λ (l : List ℕ). word l 1) (loop-words j h) ∙ word-length 1 new (wordsOf room w 4 j) (omega arith) in
+      ap (λ (l : List ℕ). word l q) (loop-words j h) ∙ word-behind 1 new (wordsOf room w 4 j) (omega arith) q (omega arith)
+
+  pub shell-place : (j q : ℕ) → j < word w 2 → 514 + word (wordsOf room w′ 2 j) 514 < q → word (wordsOf room w′ 2 j) q ≡ word (wordsOf room w 2 j) q
+  shell-place j q h g =
+      let r = words-length room w 2 j (used-inside room w x 2 j (a .fit .sized) (omega arith) h .0) in
+      let new : List ℕ = joined (entriesFor (e ∷ []) (0 ∷ []) (0 ∷ []) 0 (word w 6)) (listOf room w 3 j) in
+      let f = shell-fits room w x e t a j h in
+      let c = ap (λ (l : List ℕ). word l 514) (shell-words j h) ∙ word-length 514 new (wordsOf room w 2 j) (omega arith) in
+      ap (λ (l : List ℕ). word l q) (shell-words j h) ∙ word-behind 514 new (wordsOf room w 2 j) (omega arith) q (omega arith)
+
+  pub edge-place : (q : ℕ) → 7 + length fins < q → word (wordsOf room w′ 6 (word w 6)) q ≡ word (wordsOf room w 6 (word w 6)) q
+  edge-place q g =
+      let s = room-kept in
+      let f = s .few in
+      let k = fins-long in
+      let r = edge-long room w n s (word w 6) (omega arith) in
+      let l = second-long (wordsOf room w 6 e) (word w 7) (word w 5) n in
+      ap (λ (l : List ℕ). word l q) second-edge
+      ∙ entry-behind 0 q (secondFields (wordsOf room w 6 e) (word w 7) (word w 5) n) (wordsOf room w 6 (word w 6)) 0 (omega arith) (omega arith)
 
   -- a slot that is not used, before the split nor behind it, holds what it held
   pub slot-words : (m j : ℕ) → m < 10 → word w′ m ≤ j → j < word room m → wordsOf room w′ m j ≡ wordsOf room w m j

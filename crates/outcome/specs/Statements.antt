@@ -1,20 +1,22 @@
 -- What `split_line_edge` does to the model that the lent memory holds. Assumes nothing.
-use Prim.Native.Nat.{ℕ, zero, suc, _≤_, _<_}
+use Prim.Native.Nat.{ℕ, zero, suc, _+_, _≤_, _<_}
 use mathlib.Core.Path.{_≡_, refl, _∙_}
 use mathlib.Core.Bool.{true}
 use mathlib.Core.List.{List}
+use lib.ListN.{length}
 use lib.Ieee.{Float}
 use Rattle.meaning.specs.Model.{Model, Table}
 use Rattle.meaning.specs.Split.{splitRefusal, afterSplit, whereAccepted, modelAfter}
 use Rattle.model.specs.Layout.{word, wordsOf, realsOf}
 use Rattle.model.specs.Decode.{decode}
 use Rattle.model.specs.Readable.{readable}
+use Rattle.model.specs.Entries.{listOf}
 use Rattle.frame.specs.Change.{SameTable, SameModel}
 use Rattle.frame.specs.Kept.{readable-of}
 use Rattle.cuts.specs.Rows.{limits, splitNumber}
 use Rattle.splits.specs.After.{splitWords, splitReals}
 use Rattle.splits.specs.Rooms.{accepted}
-use Rattle.outcome.specs.Reads.{slot-words, slot-floats}
+use Rattle.outcome.specs.Reads.{loop-place, shell-place, edge-place, slot-words, slot-floats}
 use Rattle.outcome.specs.Same.{model-split}
 use Rattle.outcome.specs.Stays.{fit-split}
 
@@ -22,6 +24,12 @@ use Rattle.outcome.specs.Stays.{fit-split}
 pub record Holds (room w′ : List ℕ) (x′ : List Float) (m : Model) : Type 0 where
   pub readable : readable room w′ x′ ≡ true
   pub model : SameModel (decode room w′ x′) m
+
+-- behind the split, the words w′ hold what w held at every place of a list behind its last entry: the loops', the shells' wire edges, and those of the new edge, which has n fins
+pub record PlacesStay (room w w′ : List ℕ) (n : ℕ) : Type 0 where
+  pub loops : (i q : ℕ) → i < word w 4 → 1 + word (wordsOf room w′ 4 i) 1 < q → word (wordsOf room w′ 4 i) q ≡ word (wordsOf room w 4 i) q
+  pub wires : (i q : ℕ) → i < word w 2 → 514 + word (wordsOf room w′ 2 i) 514 < q → word (wordsOf room w′ 2 i) q ≡ word (wordsOf room w 2 i) q
+  pub new-edge : (q : ℕ) → 7 + n < q → word (wordsOf room w′ 6 (word w 6)) q ≡ word (wordsOf room w 6 (word w 6)) q
 
 same-table : {A : Type 0} (t : Table A) → SameTable t t
 same-table t = record { used = refl; slots = λ i h. refl }
@@ -55,6 +63,13 @@ module _ (room w : List ℕ) (x : List Float) (e : ℕ) (t : Float) where
       → (wordsOf room (splitWords room w x e t) k i ≡ wordsOf room w k i) × (realsOf room (splitReals room w x e t) k i ≡ realsOf room x k i)
   unfolding splitWords splitReals
   unused-slots-stay z = let a = accepted room w x e t z in rw z (λ k i h u g. (slot-words room w x e t a k i h u g, slot-floats room w x e t a k i h u g))
+
+  -- and so do places of lists
+  pub unused-places-stay : splitNumber room w x e t ≡ 0 → PlacesStay room w (splitWords room w x e t) (length (listOf room w 7 e))
+  unfolding splitWords
+  unused-places-stay z =
+      let a = accepted room w x e t z in
+      rw z (record { loops = loop-place room w x e t a; wires = shell-place room w x e t a; new-edge = edge-place room w x e t a })
 
   -- a refused one leaves every word and float as it was
   pub split-refused : (n : ℕ) → splitNumber room w x e t ≡ suc n → (splitWords room w x e t ≡ w) × (splitReals room w x e t ≡ x)

@@ -17,8 +17,8 @@ use Rattle.frame.specs.Over.{length-over, over-none}
 use Rattle.beside.specs.Laws.{one-store, over-behind}
 use Rattle.halves.specs.Pass.{putAll}
 use Rattle.halves.specs.Laws.{all-long}
-use Rattle.pieces.specs.Pieces.{newFin, secondFields, secondRoom}
-use Rattle.pieces.specs.Facts.{Slots}
+use Rattle.pieces.specs.Pieces.{newFin, secondFields}
+use Rattle.pieces.specs.Facts.{Slots, secondRoom}
 
 -- a list written whole
 append-none : {A : Type 0} (a : List A) → a ++ [] ≡ a

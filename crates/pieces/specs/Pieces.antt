@@ -26,27 +26,6 @@ newFin owners senses edge k = word owners k ∷ edge ∷ word senses k ∷ 0 ∷
 unfoldable pub secondFields : List ℕ → ℕ → ℕ → ℕ → List ℕ
 secondFields s vertex first n = 1 ∷ vertex ∷ word s 2 ∷ word s 3 ∷ word s 4 ∷ word s 5 ∷ word s 6 ∷ n ∷ run first n
 
--- the same, with room for eight fins
-unfoldable pub secondRoom : List ℕ → ℕ → ℕ → ℕ → List ℕ
-secondRoom s vertex first n =
-    1
-    ∷ vertex
-    ∷ word s 2
-    ∷ word s 3
-    ∷ word s 4
-    ∷ word s 5
-    ∷ word s 6
-    ∷ n
-    ∷ first
-    ∷ (first + 1)
-    ∷ (first + 2)
-    ∷ (first + 3)
-    ∷ (first + 4)
-    ∷ (first + 5)
-    ∷ (first + 6)
-    ∷ (first + 7)
-    ∷ []
-
 -- ---- the words, step by step
 
 -- "A new fin stands after a positive old fin, before a negative one": the loops' lists

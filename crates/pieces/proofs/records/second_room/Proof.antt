@@ -1,4 +1,4 @@
-use Rattle.pieces.specs.Pieces.{secondRoom}
+use Rattle.pieces.specs.Facts.{secondRoom}
 use mathlib.Core.Path.{refl}
 use borrow.Author.Needs.{needs}
 use Rattle.pieces.proofs.records.second_room.Statement.{statement}
