@@ -117,26 +117,11 @@ fn carried_on(
     ensures { λ r. ⌜ Noted (carried (decode (now (room .entry)) (now (words .entry)) (now (reals .entry))) n e (some c) (some s)) (now (nums .entry)) t (now (nums .exit)) r ⌝ }
 {
     let edge = edge_at(room, words, reals, e as usize);
-    let start = edge.start;
-    let end = edge.end;
     let local = edge.tolerance;
-    let tolerance = effective_tolerance(local, reals[0]);
+    let tol = effective_tolerance(local, reals[0]);
     let curve = curve_found(room, words, reals, c as usize);
     let surface = surface_found(room, words, reals, s as usize);
-    rim(
-        room,
-        words,
-        reals,
-        nums,
-        t,
-        curve,
-        surface,
-        tolerance,
-        n,
-        e,
-        start,
-        end,
-    )
+    rim(room, words, reals, nums, t, curve, surface, tol, n, e, edge)
 }
 
 // The edge e on its curve and a face's surface, where there are both; reason 21 where there is no curve.

@@ -1,4 +1,5 @@
 // An edge's two ends and its samples, held against its curve and a face's surface (parts of `fin_geometry` of gensolid-check's lib.rs).
+use entity::records::Edge;
 use entity::records::Ref;
 use entity::slots::vertex_at;
 use geometry::tolerance::effective_tolerance;
@@ -37,14 +38,14 @@ fn end_at(
     surface: Found,
     p: Point3,
     own: f64,
-    tolerance: f64,
+    tol: f64,
     e: u32,
     v: u32,
 ) -> Tally
-    requires { ⌜ Enough t (endAt curve surface p own tolerance e v) ⌝ }
-    ensures { λ r. ⌜ Noted (endAt curve surface p own tolerance e v) (now (nums .entry)) t (now (nums .exit)) r ⌝ }
+    requires { ⌜ Enough t (endAt curve surface p own tol e v) ⌝ }
+    ensures { λ r. ⌜ Noted (endAt curve surface p own tol e v) (now (nums .entry)) t (now (nums .exit)) r ⌝ }
 {
-    let a = curve_test(nums, t, curve, p, own, tolerance, e, v);
+    let a = curve_test(nums, t, curve, p, own, tol, e, v);
     point_on_surface(nums, a, surface, p, own, 23, 7, v)
 }
 
@@ -57,13 +58,13 @@ fn end_test(
     t: Tally,
     curve: Found,
     surface: Found,
-    tolerance: f64,
+    tol: f64,
     e: u32,
     v: u32,
 ) -> Tally
     requires { ⌜ Sized (now room) (now words) (now reals) ⌝ }
-    requires { ⌜ Enough t (endFindings (decode (now room) (now words) (now reals)) curve surface tolerance e v) ⌝ }
-    ensures { λ r. ⌜ Noted (endFindings (decode (now (room .entry)) (now (words .entry)) (now (reals .entry))) curve surface tolerance e v) (now (nums .entry)) t (now (nums .exit)) r ⌝ }
+    requires { ⌜ Enough t (endFindings (decode (now room) (now words) (now reals)) curve surface tol e v) ⌝ }
+    ensures { λ r. ⌜ Noted (endFindings (decode (now (room .entry)) (now (words .entry)) (now (reals .entry))) curve surface tol e v) (now (nums .entry)) t (now (nums .exit)) r ⌝ }
 {
     if words[7] <= v {
         return t;
@@ -71,7 +72,7 @@ fn end_test(
     let vertex = vertex_at(room, words, reals, v as usize);
     let local = vertex.tolerance;
     let own = effective_tolerance(local, reals[0]);
-    end_at(nums, t, curve, surface, vertex.point, own, tolerance, e, v)
+    end_at(nums, t, curve, surface, vertex.point, own, tol, e, v)
 }
 
 // The same of an end; none is skipped.
@@ -83,17 +84,17 @@ fn end_of(
     t: Tally,
     curve: Found,
     surface: Found,
-    tolerance: f64,
+    tol: f64,
     e: u32,
     end: Ref,
 ) -> Tally
     requires { ⌜ Sized (now room) (now words) (now reals) ⌝ }
-    requires { ⌜ Enough t (joined (endFindings (decode (now room) (now words) (now reals)) curve surface tolerance e) (listed (refOf end))) ⌝ }
-    ensures { λ r. ⌜ Noted (joined (endFindings (decode (now (room .entry)) (now (words .entry)) (now (reals .entry))) curve surface tolerance e) (listed (refOf end))) (now (nums .entry)) t (now (nums .exit)) r ⌝ }
+    requires { ⌜ Enough t (joined (endFindings (decode (now room) (now words) (now reals)) curve surface tol e) (listed (refOf end))) ⌝ }
+    ensures { λ r. ⌜ Noted (joined (endFindings (decode (now (room .entry)) (now (words .entry)) (now (reals .entry))) curve surface tol e) (listed (refOf end))) (now (nums .entry)) t (now (nums .exit)) r ⌝ }
 {
     match end {
         Ref::None => t,
-        Ref::Is(v) => end_test(room, words, reals, nums, t, curve, surface, tolerance, e, v),
+        Ref::Is(v) => end_test(room, words, reals, nums, t, curve, surface, tol, e, v),
     }
 }
 
@@ -106,39 +107,18 @@ fn ends(
     t: Tally,
     curve: Found,
     surface: Found,
-    tolerance: f64,
+    tol: f64,
     e: u32,
-    start: Ref,
-    end: Ref,
+    edge: Edge,
 ) -> Tally
     requires { ⌜ Sized (now room) (now words) (now reals) ⌝ }
-    requires { ⌜ Enough t (endsFindings (decode (now room) (now words) (now reals)) curve surface tolerance e (refOf start) (refOf end)) ⌝ }
-    ensures { λ r. ⌜ Noted (endsFindings (decode (now (room .entry)) (now (words .entry)) (now (reals .entry))) curve surface tolerance e (refOf start) (refOf end)) (now (nums .entry)) t (now (nums .exit)) r ⌝ }
+    requires { ⌜ Enough t (endsFindings (decode (now room) (now words) (now reals)) curve surface tol e (refOf (edge .start)) (refOf (edge .end))) ⌝ }
+    ensures { λ r. ⌜ Noted (endsFindings (decode (now (room .entry)) (now (words .entry)) (now (reals .entry))) curve surface tol e (refOf (edge .start)) (refOf (edge .end))) (now (nums .entry)) t (now (nums .exit)) r ⌝ }
 {
-    let a = end_of(
-        room,
-        words,
-        reals,
-        nums,
-        t,
-        curve,
-        surface,
-        tolerance,
-        e,
-        start,
-    );
-    end_of(
-        room,
-        words,
-        reals,
-        nums,
-        a,
-        curve,
-        surface,
-        tolerance,
-        e,
-        end,
-    )
+    let start = edge.start;
+    let end = edge.end;
+    let a = end_of(room, words, reals, nums, t, curve, surface, tol, e, start);
+    end_of(room, words, reals, nums, a, curve, surface, tol, e, end)
 }
 
 // The parameter of a vertex on the curve, where it exists and projected.
@@ -171,21 +151,21 @@ fn samples_between(
     t: Tally,
     curve: Found,
     surface: Found,
-    tolerance: f64,
+    tol: f64,
     n: u32,
     e: u32,
     start: Param,
     end: Param,
 ) -> Tally
     requires { ⌜ n ≤ 255 ⌝ }
-    requires { ⌜ Enough t (between curve surface tolerance n e start end) ⌝ }
-    ensures { λ r. ⌜ Noted (between curve surface tolerance n e start end) (now (nums .entry)) t (now (nums .exit)) r ⌝ }
+    requires { ⌜ Enough t (between curve surface tol n e start end) ⌝ }
+    ensures { λ r. ⌜ Noted (between curve surface tol n e start end) (now (nums .entry)) t (now (nums .exit)) r ⌝ }
 {
     match start {
         Param::None => t,
         Param::At(t0) => match end {
             Param::None => t,
-            Param::At(t1) => sample_tests(nums, t, curve, surface, tolerance, t0, t1, n, e),
+            Param::At(t1) => sample_tests(nums, t, curve, surface, tol, t0, t1, n, e),
         },
     }
 }
@@ -198,20 +178,21 @@ fn samples(
     t: Tally,
     curve: Found,
     surface: Found,
-    tolerance: f64,
+    tol: f64,
     n: u32,
     e: u32,
-    start: Ref,
-    end: Ref,
+    edge: Edge,
 ) -> Tally
     requires { ⌜ Sized (now room) (now words) (now reals) ⌝ }
     requires { ⌜ n ≤ 255 ⌝ }
-    requires { ⌜ Enough t (samplesBetween (decode (now room) (now words) (now reals)) curve surface tolerance n e (refOf start) (refOf end)) ⌝ }
-    ensures { λ r. ⌜ Noted (samplesBetween (decode (now (room .entry)) (now (words .entry)) (now (reals .entry))) curve surface tolerance n e (refOf start) (refOf end)) (now (nums .entry)) t (now (nums .exit)) r ⌝ }
+    requires { ⌜ Enough t (samplesBetween (decode (now room) (now words) (now reals)) curve surface tol n e (refOf (edge .start)) (refOf (edge .end))) ⌝ }
+    ensures { λ r. ⌜ Noted (samplesBetween (decode (now (room .entry)) (now (words .entry)) (now (reals .entry))) curve surface tol n e (refOf (edge .start)) (refOf (edge .end))) (now (nums .entry)) t (now (nums .exit)) r ⌝ }
 {
+    let start = edge.start;
+    let end = edge.end;
     let t0 = parameter(room, words, reals, curve, start);
     let t1 = parameter(room, words, reals, curve, end);
-    samples_between(nums, t, curve, surface, tolerance, n, e, t0, t1)
+    samples_between(nums, t, curve, surface, tol, n, e, t0, t1)
 }
 
 fn is_other(found: Found) -> bool
@@ -237,10 +218,12 @@ pub fn is_none(end: Ref) -> bool
 }
 
 // A check not made, where an edge has neither end and its curve or the surface is "other".
-fn ring(t: Tally, curve: Found, surface: Found, start: Ref, end: Ref) -> Tally
-    requires { ⌜ Enough t (onlyIf (ringed curve surface (refOf start) (refOf end)) skipped) ⌝ }
-    ensures { λ r. ⌜ ((d : List ℕ) → Noted (onlyIf (ringed curve surface (refOf start) (refOf end)) skipped) d t d r) ⌝ }
+fn ring(t: Tally, curve: Found, surface: Found, edge: Edge) -> Tally
+    requires { ⌜ Enough t (onlyIf (ringed curve surface (refOf (edge .start)) (refOf (edge .end))) skipped) ⌝ }
+    ensures { λ r. ⌜ ((d : List ℕ) → Noted (onlyIf (ringed curve surface (refOf (edge .start)) (refOf (edge .end))) skipped) d t d r) ⌝ }
 {
+    let start = edge.start;
+    let end = edge.end;
     let other = is_none(start) & is_none(end) & (is_other(curve) | is_other(surface));
     if other {
         return skip(t);
@@ -257,43 +240,17 @@ pub fn rim(
     t: Tally,
     curve: Found,
     surface: Found,
-    tolerance: f64,
+    tol: f64,
     n: u32,
     e: u32,
-    start: Ref,
-    end: Ref,
+    edge: Edge,
 ) -> Tally
     requires { ⌜ Sized (now room) (now words) (now reals) ⌝ }
     requires { ⌜ n ≤ 255 ⌝ }
-    requires { ⌜ Enough t (rimFindings (decode (now room) (now words) (now reals)) curve surface tolerance n e (refOf start) (refOf end)) ⌝ }
-    ensures { λ r. ⌜ Noted (rimFindings (decode (now (room .entry)) (now (words .entry)) (now (reals .entry))) curve surface tolerance n e (refOf start) (refOf end)) (now (nums .entry)) t (now (nums .exit)) r ⌝ }
+    requires { ⌜ Enough t (rimFindings (decode (now room) (now words) (now reals)) curve surface tol n e (refOf (edge .start)) (refOf (edge .end))) ⌝ }
+    ensures { λ r. ⌜ Noted (rimFindings (decode (now (room .entry)) (now (words .entry)) (now (reals .entry))) curve surface tol n e (refOf (edge .start)) (refOf (edge .end))) (now (nums .entry)) t (now (nums .exit)) r ⌝ }
 {
-    let a = ends(
-        room,
-        words,
-        reals,
-        nums,
-        t,
-        curve,
-        surface,
-        tolerance,
-        e,
-        start,
-        end,
-    );
-    let b = samples(
-        room,
-        words,
-        reals,
-        nums,
-        a,
-        curve,
-        surface,
-        tolerance,
-        n,
-        e,
-        start,
-        end,
-    );
-    ring(b, curve, surface, start, end)
+    let a = ends(room, words, reals, nums, t, curve, surface, tol, e, edge);
+    let b = samples(room, words, reals, nums, a, curve, surface, tol, n, e, edge);
+    ring(b, curve, surface, edge)
 }

@@ -21,4 +21,5 @@ unfolding endsFindings
 returns c = noted-then (c .before .before .before .before .before .before .end-of .ensures) (c .before .before .end-of2 .ensures)
 
 pub ends-spec : {M : Type 1} → statement M
-ends-spec = tie.close (tie.spec end-of-requires end-of-requires-2 same-length returns)
+ends-spec =
+    tie.close (tie.spec end-of-requires end-of-requires-2 same-length returns)

@@ -36,13 +36,4 @@ returns-3 c = param-given (decode (c .before .before .before .before .before .be
 
 pub parameter-at-spec : {M : Type 1} → statement M
 parameter-at-spec =
-    tie.close
-    (tie.spec
-    shared-slice-read-if1
-    returns
-    vertex-at-requires
-    project-to-curve-requires
-    enum-told
-    enum-known-near
-    returns-2
-    returns-3)
+    tie.close (tie.spec shared-slice-read-if1 returns vertex-at-requires project-to-curve-requires enum-told enum-known-near returns-2 returns-3)

@@ -25,4 +25,5 @@ unfolding rimFindings
 returns c = noted-then (noted-then (c .before .before .before .before .before .before .before .ends .ensures) (c .before .before .before .samples .ensures)) (c .ring .ensures _)
 
 pub rim-spec : {M : Type 1} → statement M
-rim-spec = tie.close (tie.spec ends-requires samples-requires ring-requires same-length returns)
+rim-spec =
+    tie.close (tie.spec ends-requires samples-requires ring-requires same-length returns)
