@@ -1,27 +1,23 @@
 -- What is found of a body, by what is there. Assumes nothing.
-use Prim.Native.Nat.{ℕ, zero, suc, _≤_, _<_}
+use Prim.Native.Nat.{ℕ, _≤_, _<_}
 use native.Mathlib.Omega.{arith}
 use mathlib.Core.Path.{_≡_, refl, sym, ap, _∙_}
-use mathlib.Core.Bool.{Bool, true, false, cond, _&&_}
+use mathlib.Core.Bool.{Bool, true, false}
 use mathlib.Core.List.{List, [], _++_}
-use lib.Dec.{eqb}
 use lib.Ieee.{Float}
-use lib.ListN.{length}
 use borrow.Author.Tests.{eq-eqb, ne-eqb}
 use Rattle.meaning.specs.Lists.{joined}
 use Rattle.meaning.specs.Model as Models
 use Rattle.meaning.specs.Model.{Model, body}
 use Rattle.meaning.specs.Walks.{edgeWalk, edgesRefusal}
 use Rattle.meaning.specs.Inquire.{isSolid}
-use Rattle.meaning.specs.Faults.{Finding, regionFindings, layout, manifoldEdge, manifoldEdges, findings, CheckOptions}
+use Rattle.meaning.specs.Faults.{regionFindings, layout, manifoldEdge, manifoldEdges, findings, CheckOptions}
 use Rattle.model.specs.Layout.{word}
 use Rattle.model.specs.Decode.{decode}
 use Rattle.model.specs.Entries.{listOf}
-use Rattle.model.specs.Readable.{readable}
 use Rattle.model.specs.Fit.{Lists}
 use Rattle.entity.specs.declared.records.Body.{Body}
 use Rattle.entity.specs.Seen.{seenKind, seenBody}
-use Rattle.reasons.specs.declared.Tally.{Tally}
 use Rattle.reasons.specs.Log.{Enough}
 use Rattle.walks.specs.Decoded.{refusedBy}
 use Rattle.loops.specs.Loops.{options}

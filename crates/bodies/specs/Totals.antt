@@ -4,9 +4,9 @@ use native.Mathlib.Omega.{arith}
 use native.Mathlib.Nat.{le-trans, mul-suc, mul-le-mul-left}
 use mathlib.Core.Path.{_≡_, refl, sym, ap, _∙_, subst}
 use mathlib.Core.Bool.{Bool, true, false, not, cond, _&&_, _||_}
-use mathlib.Core.List.{List, [], _∷_, _++_, map}
+use mathlib.Core.List.{List, [], _∷_, _++_}
 use mathlib.Core.Option.{Option, none, some}
-use lib.Dec.{eqb, ltb, leb}
+use lib.Dec.{eqb}
 use lib.Ieee.{Float, lt}
 use lib.ListN.{length, getD, length-append, length-map}
 use borrow.Author.Tests.{ltb-true, eqb-true, eqb-false}
@@ -29,8 +29,7 @@ use Rattle.model.specs.Layout.{word, wordsOf}
 use Rattle.model.specs.Decode.{decode}
 use Rattle.model.specs.Entries.{listTables, listLimits, listOf}
 use Rattle.model.specs.Fit.{Lists}
-use Rattle.marks.specs.Laws.{joined-turn}
-use Rattle.parts.specs.Parts.{finEdge, endOf, endsIn, partOf, Source, Sources}
+use Rattle.parts.specs.Parts.{finEdge, endOf, partOf, Source, Sources}
 use Rattle.parts.specs.Laws.{list-limit, list-short, part-ends, part-fins, part-list, source-kind, end-short}
 use Rattle.visits.specs.Visits.{idsOf}
 use Rattle.paths.specs.Paths.{edgePath, edgeList, bodyFollowed, facesThere, loopsFollowed, Looped}

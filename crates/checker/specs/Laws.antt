@@ -1,21 +1,20 @@
 -- The lent words of the checker, and its refusals. Assumes nothing.
-use Prim.Native.Nat.{ℕ, zero, suc, _+_, _*_, _/_, _%_, _≤_, _<_}
+use Prim.Native.Nat.{ℕ, zero, suc, _+_, _*_, _/_, _≤_, _<_}
 use native.Mathlib.Omega.{arith}
 use native.Mathlib.Nat.{div-add-mod'}
-use mathlib.Core.Path.{_≡_, refl, sym, ap, _∙_, subst}
+use mathlib.Core.Path.{_≡_, refl, sym, ap, _∙_}
 use mathlib.Core.Bool.{Bool, true, false, cond, _&&_}
 use mathlib.Core.List.{List, [], _∷_, _++_, append-assoc}
 use lib.Dec.{eqb, ltb, leb}
 use lib.Ieee.{Float}
-use lib.ListN.{length, getD, set, take, drop, length-append, length-drop, take-append-drop}
+use lib.ListN.{length, set, take, drop, take-append-drop}
 use lib.Seq.{sets, take-all, take-nil, drop-nil, length-take-le, drop-append-le}
 use borrow.Author.Tests.{ltb-true, ltb-false, leb-true, leb-false, le-leb, lt-leb}
-use Rattle.geometry.specs.Refuse.{_unless_, _then_, answer}
+use Rattle.geometry.specs.Refuse.{_unless_, answer}
 use Rattle.meaning.specs.Model.{Model, has}
 use Rattle.meaning.specs.Faults as Faults
-use Rattle.meaning.specs.Faults.{Fault, Finding, faultsOf, skippedOf, Report, reportOf, kept, counts, CheckOptions, checkRefusal, sawing, sawable}
+use Rattle.meaning.specs.Faults.{Fault, Finding, faultsOf, skippedOf, reportOf, kept, counts, CheckOptions, checkRefusal, sawing, sawable}
 use Rattle.lists.specs.Tests.{then-zero, unless-zero, refused-answer}
-use Rattle.model.specs.Layout.{word}
 use Rattle.model.specs.Decode.{decode}
 use Rattle.model.specs.Readable.{readable}
 use Rattle.reasons.specs.declared.Tally.{Tally}
@@ -148,10 +147,6 @@ module _ (m : Model) (samples b : ℕ) where
   ask-passed e =
       let p = then-zero (1 unless leb samples 255) (2 unless has (m .bodies) b) e in
       (leb-true samples 255 (unless-zero 0 (leb samples 255) (p .0)), unless-zero 1 (has (m .bodies) b) (p .1))
-
-  pub ask-check : (geometry : Bool) → askRefusal m samples b ≡ checkRefusal m (record { geometry = geometry; edgeSamples = samples }) b
-  unfolding askRefusal checkRefusal
-  ask-check geometry = refl
 
 -- ---- the call
 

@@ -7,11 +7,11 @@ use mathlib.Core.Option.{Option}
 use lib.Ieee.{Float}
 use Rattle.meaning.specs.Lists.{isSome, is, joined}
 use Rattle.meaning.specs.Model.{Model, has, face}
-use Rattle.meaning.specs.Faults.{Finding, onlyIf, fault, CheckOptions, loopFindings, checkedFrom, faceFindings}
+use Rattle.meaning.specs.Faults.{onlyIf, fault, CheckOptions, loopFindings, checkedFrom, faceFindings}
 use Rattle.model.specs.Decode.{decode}
 use Rattle.model.specs.Entries.{listOf}
 use Rattle.entity.specs.declared.records.Face.{Face}
-use Rattle.entity.specs.Seen.{seenRef, seenFace}
+use Rattle.entity.specs.Seen.{seenFace}
 use Rattle.rims.specs.Rims.{refOf}
 use Rattle.rims.specs.Laws.{ref-back}
 use Rattle.loops.specs.Laws.{surface-told}

@@ -12,7 +12,7 @@ use lib.ListN.{length, getD, set, take, drop, length-append}
 use lib.Seq.{drop-cons, set-at, append-snoc, take-all, take-length, take-take, take-suc}
 use Rattle.meaning.specs.Faults as Faults
 use Rattle.meaning.specs.Faults.{CheckOptions, kept}
-use Rattle.reasons.specs.Log.{classNumber, faultWords, faultsWords}
+use Rattle.reasons.specs.Log.{classNumber, faultsWords}
 use Rattle.walks.specs.Calls.{handed, inFront}
 use Rattle.checker.specs.Calls.{reportOn, checkNumber, checkWords}
 use Rattle.faults.specs.declared.Fault.{Fault}

@@ -1,19 +1,17 @@
 -- What is found of a fin, by what is there. Assumes nothing.
-use Prim.Native.Nat.{ℕ, _≤_, _<_}
+use Prim.Native.Nat.{ℕ}
 use mathlib.Core.Path.{_≡_, refl, sym, ap, _∙_}
-use mathlib.Core.Bool.{Bool, true, false, not, cond, _&&_}
+use mathlib.Core.Bool.{Bool, true, false, not}
 use mathlib.Core.List.{List, [], _∷_, _++_}
-use mathlib.Core.Option.{Option, none, some}
-use lib.Dec.{eqb, ltb}
+use mathlib.Core.Option.{Option, some}
+use lib.Dec.{eqb}
 use lib.Ieee.{Float}
 use Rattle.geometry.specs.Geometry.{effective}
 use Rattle.store.specs.declared.Found.{Found}
 use Rattle.meaning.specs.Lists.{member, listed, joined}
-use Rattle.meaning.specs.Model.{Model, has, face, fin, edge, curve, surface}
-use Rattle.meaning.specs.Walks.{edgeVertices, readableFin}
-use Rattle.meaning.specs.Faults.{Finding, onlyIf, fault, carried, finFindings, finGeometry}
+use Rattle.meaning.specs.Model.{Model, has, fin, edge, curve, surface}
+use Rattle.meaning.specs.Faults.{onlyIf, fault, carried, finFindings}
 use Rattle.lists.specs.Lists.{joined-append}
-use Rattle.model.specs.Layout.{word, wordsOf}
 use Rattle.model.specs.Decode.{decode}
 use Rattle.model.specs.Entries.{listOf}
 use Rattle.entity.specs.declared.records.Ref.{Ref}
@@ -110,8 +108,3 @@ module _ (m : Model) (n : ℕ) (surface : Option ℕ) (i : ℕ) where
     fin-edge g =
         let k : has (m .edges) (fin m i .edge) ≡ true = ap (has (m .edges)) (sym edge-told) ∙ g in
         rw (h, k) (ap (λ (e : ℕ). carried m n e (edge m e .curve) surface) (sym edge-told))
-
--- the face's own surface
-pub fin-geometry : (m : Model) (n f i : ℕ) → finGeometry m n f i ≡ finOn m n (face m f .surface) i
-unfolding finGeometry finOn
-fin-geometry m n f i = refl

@@ -13,17 +13,15 @@ use Rattle.meaning.specs.Model.{Model, has, face, loop}
 use Rattle.meaning.specs.Faults.{Finding, onlyIf, fault, CheckOptions, finFindings, finGeometry, opens, loopFindings}
 use Rattle.model.specs.Decode.{decode}
 use Rattle.model.specs.Entries.{listOf}
-use Rattle.entity.specs.declared.records.Ref.{Ref}
 use Rattle.entity.specs.declared.records.Face.{Face}
 use Rattle.entity.specs.declared.records.Loop.{Loop}
-use Rattle.entity.specs.Seen.{seenRef, seenFace, seenLoop}
+use Rattle.entity.specs.Seen.{seenFace, seenLoop}
 use Rattle.reasons.specs.declared.Tally.{Tally}
 use Rattle.reasons.specs.Log.{Noted}
 use Rattle.reasons.specs.Laws.{noted-same}
 use Rattle.rims.specs.Rims.{refOf}
 use Rattle.rims.specs.Laws.{ref-back}
 use Rattle.fins.specs.Fins.{finOn}
-use Rattle.fins.specs.Laws.{fin-geometry}
 use Rattle.loops.specs.Loops.{options, finsFindings}
 
 -- a face's surface

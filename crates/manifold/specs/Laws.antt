@@ -1,22 +1,21 @@
 -- The manifold edges of a walk. Assumes nothing.
-use Prim.Native.Nat.{ℕ, zero, suc, _+_, _≤_, _<_}
+use Prim.Native.Nat.{ℕ, _+_, _≤_, _<_}
 use native.Mathlib.Omega.{arith}
 use native.Mathlib.Nat.{le-trans}
 use mathlib.Core.Path.{_≡_, refl, sym, ap, _∙_, subst}
-use mathlib.Core.Bool.{Bool, true, false, cond, _&&_}
+use mathlib.Core.Bool.{Bool, true, false}
 use mathlib.Core.List.{List, [], _∷_, _++_, append-nil, append-assoc}
 use lib.Ieee.{Float}
-use lib.ListN.{length, getD, take, drop, length-append, take-append-drop}
+use lib.ListN.{length, getD, take, drop, take-append-drop}
 use Rattle.meaning.specs.Lists.{member, joined, meet, meets, firsts}
 use Rattle.meaning.specs.Model.{Model, Sense, positive, negative, has, fin, edge}
 use Rattle.meaning.specs.Walks.{edgeWalk}
 use Rattle.meaning.specs.Faults.{Finding, onlyIf, fault, sameSense, manifold, manifoldEdge}
-use Rattle.lists.specs.Lists.{meet-old, meet-new, meets-append, firsts-append, joined-append}
+use Rattle.lists.specs.Lists.{meet-old, meet-new, firsts-append, joined-append}
 use Rattle.model.specs.Decode.{decode}
 use Rattle.model.specs.Entries.{listOf}
 use Rattle.marks.specs.Marks.{Marked}
 use Rattle.marks.specs.Laws.{joined-turn}
-use Rattle.parts.specs.Parts.{Took}
 use Rattle.visits.specs.Visits.{idsOf, Fresh}
 use Rattle.paths.specs.Paths.{edgePath, edgeList}
 use Rattle.walks.specs.Laws.{edge-list}

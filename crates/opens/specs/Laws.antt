@@ -3,10 +3,10 @@ use Prim.Native.Nat.{ℕ, zero, suc, _+_, _≤_, _<_}
 use native.Mathlib.Omega.{arith}
 use native.Mathlib.Numerals.{add-one}
 use mathlib.Core.Path.{_≡_, refl, sym, ap, _∙_, subst}
-use mathlib.Core.Bool.{Bool, true, false, not, cond, _&&_}
+use mathlib.Core.Bool.{Bool, true, false, not, _&&_}
 use mathlib.Core.List.{List, [], _∷_, _++_, append-nil, append-assoc}
-use mathlib.Core.Option.{Option, none, some}
-use lib.Dec.{eqb, ltb}
+use mathlib.Core.Option.{Option}
+use lib.Dec.{ltb}
 use lib.Ieee.{Float}
 use lib.ListN.{length, getD, take, drop, length-append, List·getD-append}
 use lib.Seq.{getD-append-seam}
@@ -18,7 +18,6 @@ use Rattle.meaning.specs.Faults.{Finding, meetsNext, openAt, opens}
 use Rattle.lists.specs.Tests.{and-both}
 use Rattle.model.specs.Layout.{word}
 use Rattle.model.specs.Decode.{decode}
-use Rattle.entity.specs.declared.records.Ref.{Ref}
 use Rattle.entity.specs.declared.records.Fin as Fins
 use Rattle.entity.specs.declared.records.Edge as Edges
 use Rattle.entity.specs.Seen.{seenRef, seenSense, seenFin, seenEdge}

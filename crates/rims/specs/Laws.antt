@@ -4,7 +4,7 @@ use native.Mathlib.Omega.{arith}
 use borrow.Author.Tests.{eq-eqb, ne-eqb}
 use mathlib.Core.Path.{_≡_, refl, sym, ap, _∙_}
 use mathlib.Core.Bool.{Bool, true, false, not, cond, _&&_, _||_}
-use mathlib.Core.List.{List, [], _∷_, _++_, append-nil}
+use mathlib.Core.List.{List, [], _++_, append-nil}
 use mathlib.Core.Option.{Option, none, some}
 use lib.Dec.{eqb}
 use lib.Ieee.{Float}
@@ -16,7 +16,6 @@ use Rattle.store.specs.declared.Projected.the-variants as Projections
 use Rattle.store.specs.Queries.{theLine, projectRefusal, projection, projectToCurve}
 use Rattle.meaning.specs.Lists.{run, the, isSome, listed, joined}
 use Rattle.meaning.specs.Model.{Model, has, edge, vertex, pointOf, curve, surface}
-use Rattle.meaning.specs.Walks.{edgeVertices}
 use Rattle.meaning.specs.Faults.{Finding, skipped, onlyIf, endTests, projected, sampleTest, sampleTests, sampleAt, carried, isOther, otherRing, curveTest, pointOnSurface}
 use Rattle.lists.specs.Lists.{joined-append}
 use Rattle.entity.specs.declared.records.Ref.{Ref}
@@ -24,7 +23,7 @@ use Rattle.entity.specs.declared.records.Ref.the-variants as Refs
 use Rattle.entity.specs.declared.records.Vertex.{Vertex}
 use Rattle.entity.specs.Seen.{seenRef, seenVertex}
 use Rattle.points.specs.Points.{curveFindings, surfaceFindings, sampleFindings, samplesFindings}
-use Rattle.points.specs.Laws.{Refuses, Gives, project-refused, project-given}
+use Rattle.points.specs.Laws.{project-refused, project-given}
 use Rattle.rims.specs.declared.Param.{Param}
 use Rattle.rims.specs.declared.Param.the-variants as Params
 use Rattle.rims.specs.Rims.{refOf, endAt, endFindings, endsFindings, paramAt, paramOf, between, samplesBetween, ringed, rimFindings}
@@ -115,10 +114,6 @@ module _ (m : Model) (curve : Found) (v : ℕ) (x : Vertex) (is : x ≡ seenVert
       rw (h, eq-eqb (projectRefusal curve (pointOf m v)) 0 (w .number)) (ap (λ y. Params.At (y .param)) (sym (w .value)))
 
 -- ---- what `meaning` says
-
-pub end-tests : (m : Model) (e c s v : ℕ) → endTests m e c s v ≡ endFindings m (curve m c) (surface m s) (effective (edge m e .tolerance) (m .precision)) e v
-unfolding endTests endFindings endAt curveTest curveFindings pointOnSurface surfaceFindings
-end-tests m e c s v = refl
 
 module _ (m : Model) (n e c s : ℕ) where
   abbrev tolerance : Float

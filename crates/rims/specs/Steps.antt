@@ -1,19 +1,11 @@
 -- Laws of one step of the checker after the other. Assumes nothing.
-use Prim.Native.Nat.{ℕ, _≤_, _<_}
-use mathlib.Core.Path.{_≡_, refl, sym}
-use mathlib.Core.Bool.{Bool, true, false, cond}
+use Prim.Native.Nat.{ℕ}
+use mathlib.Core.Path.{_≡_, sym}
 use mathlib.Core.List.{List, _++_}
 use Rattle.meaning.specs.Faults.{Finding}
 use Rattle.reasons.specs.declared.Tally.{Tally}
 use Rattle.reasons.specs.Log.{Noted, Enough}
 use Rattle.reasons.specs.Laws.{noted-same, noted-then, enough-same, enough-first, enough-then}
-
--- a choice by a test that is known
-pub cond-true : {A : Type 0} (b : Bool) (x y : A) → b ≡ true → cond b x y ≡ x
-cond-true b x y e = rw e
-
-pub cond-false : {A : Type 0} (b : Bool) (x y : A) → b ≡ false → cond b x y ≡ y
-cond-false b x y e = rw e
 
 -- two steps: there are numbers for the first, for the second after the first, and together they are logged
 module _ (l a b : List Finding) (e : l ≡ a ++ b) where

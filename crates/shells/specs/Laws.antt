@@ -1,15 +1,15 @@
 -- What is found of shells and regions, by what is there. Assumes nothing.
-use Prim.Native.Nat.{ℕ, suc, _≤_}
+use Prim.Native.Nat.{ℕ}
 use native.Mathlib.Omega.{arith}
-use mathlib.Core.Path.{_≡_, refl, sym, ap, _∙_}
-use mathlib.Core.Bool.{Bool, true, false, not, cond, _&&_}
+use mathlib.Core.Path.{_≡_, refl, sym, ap}
+use mathlib.Core.Bool.{Bool, true, false, not, _&&_}
 use mathlib.Core.List.{List, [], _∷_, _++_}
 use lib.Dec.{eqb}
 use lib.ListN.{length, getD}
 use lib.Ieee.{Float}
 use Rattle.meaning.specs.Lists.{joined}
 use Rattle.meaning.specs.Model.{Model, has, shell, region}
-use Rattle.meaning.specs.Faults.{Finding, onlyIf, fault, CheckOptions, faceFindings, shellFindings, regionFindings, layout}
+use Rattle.meaning.specs.Faults.{onlyIf, fault, CheckOptions, faceFindings, shellFindings, regionFindings, layout}
 use Rattle.model.specs.Decode.{decode}
 use Rattle.model.specs.Entries.{listOf}
 use Rattle.entity.specs.declared.records.Shell.{Shell}
