@@ -1,6 +1,9 @@
 // Replays the fixed list of the Rust's answers (stdin; compare/README.md says how it is made and how a row is written),
 // and writes how many rows there were and how many of our answers differ from them.
-ghost use Prim.Native.Nat.{_≤_, _<_};
+use digits::bits_of;
+use digits::float_of;
+use digits::hex;
+ghost use Prim.Native.Nat.{_≤_};
 
 struct Counts {
     rows: u64,
@@ -10,22 +13,6 @@ struct Counts {
 struct After {
     more: bool,
     counts: Counts,
-}
-
-// A hexadecimal digit's value.
-fn digit(c: u8) -> u64
-    ensures { λ r. ⌜ r < 16 ⌝ }
-{
-    match c {
-        48..=57 => (c - 48) as u64,
-        97..=102 => (c - 87) as u64,
-        _ => 0,
-    }
-}
-
-// acc with one digit more.
-fn hex(acc: u64, c: u8) -> u64 {
-    acc % 0x1000000000000000 * 16 + digit(c)
 }
 
 // acc with the four digits at `at` more.
@@ -47,23 +34,6 @@ fn word(line: &[u8; 323], at: usize) -> u64
         at + 12,
         four(line, at + 8, four(line, at + 4, four(line, at, 0))),
     )
-}
-
-// The float of a bit pattern.
-fn float_of(b: u64) -> f64 {
-    if b % 0x8000000000000000 <= 0x7ff0000000000000 {
-        f64::from_bits(b)
-    } else {
-        0.0 / 0.0
-    }
-}
-
-// The bits of a float, one pattern for every NaN.
-fn bits_of(x: f64) -> u64 {
-    if x != x {
-        return 0x7ff8000000000000;
-    }
-    f64::to_bits(x)
 }
 
 fn operand(line: &[u8; 323], at: usize) -> f64

@@ -1,8 +1,8 @@
--- `replay::float_of` is safe: up to the infinity's, a pattern with the sign's bit taken off is no NaN's. Assumes nothing.
+-- `digits::float_of` is safe: up to the infinity's, a pattern with the sign's bit taken off is no NaN's. Assumes nothing.
 use Rattle.numbers.specs.Bits.{pattern-no-nan}
 use borrow.Author.Needs.{needs}
-use Rattle.replay.proofs.float_of.Statement.{statement}
-use Rattle.replay.proofs.float_of.Tie as tie
+use Rattle.digits.proofs.float_of.Statement.{statement}
+use Rattle.digits.proofs.float_of.Tie as tie
 
 float-from-bits-result : tie.Need-float-from-bits-result
 float-from-bits-result c = pattern-no-nan (c .before .args .b) (c .if1 .taken)

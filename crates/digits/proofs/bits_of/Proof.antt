@@ -1,8 +1,8 @@
--- `replay::bits_of` is safe: what is not unlike itself is no NaN. Assumes nothing.
+-- `digits::bits_of` is safe: what is not unlike itself is no NaN. Assumes nothing.
 use Rattle.numbers.specs.Bits.{is-num}
 use borrow.Author.Needs.{needs}
-use Rattle.replay.proofs.bits_of.Statement.{statement}
-use Rattle.replay.proofs.bits_of.Tie as tie
+use Rattle.digits.proofs.bits_of.Statement.{statement}
+use Rattle.digits.proofs.bits_of.Tie as tie
 
 returns : tie.Need-returns
 returns c = search needs
