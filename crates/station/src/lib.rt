@@ -3,6 +3,7 @@
 pub mod entries;
 pub mod inserting;
 pub mod lookups;
+pub mod measuring;
 pub mod models;
 pub mod setting;
 pub mod spans;

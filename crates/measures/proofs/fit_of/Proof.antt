@@ -1,0 +1,23 @@
+-- `measures::fit_of` meets its contract. Assumes nothing.
+use borrow.Author.Needs.{needs}
+use Rattle.measures.proofs.fit_of.Statement.{statement}
+use Rattle.measures.proofs.fit_of.Tie as tie
+
+fit-to-saw-requires : tie.Need-fit-to-saw-requires
+fit-to-saw-requires c κs = search needs
+
+put-fit-requires : tie.Need-put-fit-requires
+put-fit-requires c κs = search needs
+
+same-length : tie.Need-same-length
+same-length c = search needs
+
+same-length-2 : tie.Need-same-length-2
+same-length-2 c = search needs
+
+returns : tie.Need-returns
+returns c = rw (← c .before .before .before .before .before .before .fit-to-saw .ensures .0) (c .put-fit .ensures .0, (c .put-fit .ensures .1, c .before .before .before .before .before .before .fit-to-saw .ensures .1))
+
+pub fit-of-spec : {M : Type 1} → statement M
+fit-of-spec =
+    tie.close (tie.spec fit-to-saw-requires put-fit-requires same-length same-length-2 returns)

@@ -1,0 +1,24 @@
+-- `measures::put_box` meets its contract. Assumes nothing.
+use mathlib.Core.Path.{refl}
+use borrow.Author.Needs.{needs}
+use Rattle.measures.proofs.put_box.Statement.{statement}
+use Rattle.measures.proofs.put_box.Tie as tie
+
+enum-known-answer : tie.Need-enum-known-answer
+enum-known-answer c = search needs
+
+box-value-requires : tie.Need-box-value-requires
+box-value-requires c κs = search needs
+
+enum-known-answer-2 : tie.Need-enum-known-answer-2
+enum-known-answer-2 c = search needs
+
+returns : tie.Need-returns
+returns c = rw (c .before .before .answer .given .1) (refl, c .box-value .ensures)
+
+returns-2 : tie.Need-returns-2
+returns-2 c = search needs
+
+pub put-box-spec : {M : Type 1} → statement M
+put-box-spec =
+    tie.close (tie.spec enum-known-answer box-value-requires enum-known-answer-2 returns returns-2)

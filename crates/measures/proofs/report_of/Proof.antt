@@ -1,0 +1,33 @@
+-- `measures::report_of` meets its contract. Assumes nothing.
+use borrow.Author.Needs.{needs}
+use Rattle.measures.proofs.report_of.Statement.{statement}
+use Rattle.measures.proofs.report_of.Tie as tie
+
+check-body-requires : tie.Need-check-body-requires
+check-body-requires c κs = search needs
+
+put-counts-requires : tie.Need-put-counts-requires
+put-counts-requires c κs = search needs
+
+same-length : tie.Need-same-length
+same-length c = search needs
+
+same-length-2 : tie.Need-same-length-2
+same-length-2 c = search needs
+
+same-length-3 : tie.Need-same-length-3
+same-length-3 c = search needs
+
+returns : tie.Need-returns
+returns c = rw (← c .before .before .before .before .before .before .before .before .check-body .ensures .0) (c .put-counts .ensures .0, (c .put-counts .ensures .1, c .before .before .before .before .before .before .before .before .check-body .ensures .1))
+
+pub report-of-spec : {M : Type 1} → statement M
+report-of-spec =
+    tie.close
+    (tie.spec
+    check-body-requires
+    put-counts-requires
+    same-length
+    same-length-2
+    same-length-3
+    returns)

@@ -1,0 +1,24 @@
+-- `measures::split_of` meets its contract. Assumes nothing.
+use borrow.Author.Needs.{needs}
+use Rattle.measures.proofs.split_of.Statement.{statement}
+use Rattle.measures.proofs.split_of.Tie as tie
+
+split-line-edge-requires : tie.Need-split-line-edge-requires
+split-line-edge-requires c κs = search needs
+
+put-split-requires : tie.Need-put-split-requires
+put-split-requires c κs = search needs
+
+same-length : tie.Need-same-length
+same-length c = search needs
+
+same-length-2 : tie.Need-same-length-2
+same-length-2 c = search needs
+
+returns : tie.Need-returns
+returns c = rw (← c .before .before .before .before .before .before .split-line-edge .ensures .0) (c .put-split .ensures .0, (c .put-split .ensures .1, c .before .before .before .before .before .before .split-line-edge .ensures .1))
+
+pub split-of-spec : {M : Type 1} → statement M
+split-of-spec =
+    tie.close
+    (tie.spec split-line-edge-requires put-split-requires same-length same-length-2 returns)

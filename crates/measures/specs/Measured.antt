@@ -1,0 +1,69 @@
+-- How a box, a volume, a split and a report cross to C: as the number, 0 or the refusal, and as the values in lent slots, which a refusal leaves as they were. Definitions only.
+-- (01, "Where an answer is an enum, a definition gives this paper's number and values for each case of the enum")
+use Prim.Native.Nat.{ℕ}
+use mathlib.Core.Bool.{Bool, cond, not}
+use mathlib.Core.List.{List, [], _∷_}
+use lib.Dec.{eqb}
+use lib.Ieee.{Float}
+use Rattle.figures.specs.declared.bbox.Aabb.{Aabb}
+use Rattle.boxes.specs.declared.BoxFound.{BoxFound}
+use Rattle.boxes.specs.declared.BoxFound.the-variants as Boxes
+use Rattle.volumes.specs.declared.Volume.{Volume}
+use Rattle.volumes.specs.declared.Volume.the-variants as Volumes
+use Rattle.checker.specs.declared.Checked.{Checked}
+use Rattle.checker.specs.declared.Checked.the-variants as Checks
+use Rattle.checker.specs.declared.Sawable.{Sawable}
+use Rattle.checker.specs.declared.Sawable.the-variants as Saws
+use Rattle.splits.specs.declared.Split.{Split}
+use Rattle.splits.specs.declared.Split.the-variants as Splits
+
+-- the least corner, then the greatest
+unfoldable pub boxValue : Aabb → List Float
+boxValue b = b .min .x ∷ b .min .y ∷ b .min .z ∷ b .max .x ∷ b .max .y ∷ b .max .z ∷ []
+
+abbrev pub boxNumber : BoxFound → ℕ
+boxNumber (Boxes.Is b) = 0
+boxNumber (Boxes.Refused n) = n
+
+abbrev pub boxSlots : BoxFound → List Float → List Float
+boxSlots (Boxes.Is b) s = boxValue b
+boxSlots (Boxes.Refused n) s = s
+
+abbrev pub volumeNumber : Volume → ℕ
+volumeNumber (Volumes.Is v) = 0
+volumeNumber (Volumes.Refused n) = n
+
+abbrev pub volumeSlots : Volume → List Float → List Float
+volumeSlots (Volumes.Is v) s = v ∷ []
+volumeSlots (Volumes.Refused n) s = s
+
+-- the split edge, the new edge, the new vertex
+abbrev pub splitNumber : Split → ℕ
+splitNumber (Splits.Is m) = 0
+splitNumber (Splits.Refused n) = n
+
+abbrev pub splitSlots : Split → List ℕ → List ℕ
+splitSlots (Splits.Is m) s = m .«original_edge» ∷ m .«new_edge» ∷ m .vertex ∷ []
+splitSlots (Splits.Refused n) s = s
+
+-- how many faults, how many kept, how many checks could not be made
+abbrev pub checkedNumber : Checked → ℕ
+checkedNumber (Checks.Is c) = 0
+checkedNumber (Checks.Refused n) = n
+
+abbrev pub checkedSlots : Checked → List ℕ → List ℕ
+checkedSlots (Checks.Is c) s = c .faults ∷ c .kept ∷ c .unchecked ∷ []
+checkedSlots (Checks.Refused n) s = s
+
+-- 1 where the body is fit to saw
+abbrev pub sawableNumber : Sawable → ℕ
+sawableNumber (Saws.Is b) = 0
+sawableNumber (Saws.Refused n) = n
+
+abbrev pub sawableSlots : Sawable → List ℕ → List ℕ
+sawableSlots (Saws.Is b) s = cond b 1 0 ∷ []
+sawableSlots (Saws.Refused n) s = s
+
+-- geometry is checked where the number is not 0
+abbrev pub wanted : ℕ → Bool
+wanted g = not (eqb g 0)
