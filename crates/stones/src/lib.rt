@@ -1,4 +1,6 @@
 // The trial stone (01, "Trial stone"), laid out by inserts and appended entries, as meaning/specs/Stone.antt has it.
+pub mod counts;
+
 use edits::Inserted;
 use edits::make;
 use entity::records::BodyKind;
