@@ -1,9 +1,8 @@
 //! Whole models in the Rust and in lent memory, asked the same through the station's calls.
 
-#[cfg(feature = "coming")]
-pub mod coming;
 pub mod edits;
 pub mod layout;
+pub mod measures;
 pub mod operations;
 pub mod ours;
 pub mod queries;

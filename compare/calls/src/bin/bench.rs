@@ -6,7 +6,8 @@ use std::time::{Duration, Instant};
 
 use calls::layout::{LARGEST, Lent};
 use calls::walks::Walk;
-use gensolid_topo::{Model, split_line_edge};
+use gensolid_check::{CheckOptions, check_body};
+use gensolid_topo::{Model, body_bounding_box, body_volume, split_line_edge};
 use models::original::{self, Names};
 use models::plain::Plain;
 
@@ -44,6 +45,34 @@ fn row(what: &str, rust: Duration, ours: Duration) {
 
 fn model(names: &Names, plain: &mut Plain) -> Model {
     original::build(plain, names).expect("the Rust makes it")
+}
+
+/// What a call takes on a copy, without the copying.
+fn on_a_copy<T: Clone>(whole: &T, mut call: impl FnMut(&mut T)) -> Duration {
+    let copying = time(|| drop(black_box(black_box(whole).clone())));
+    let both = time(|| {
+        let mut copy = black_box(whole).clone();
+        call(&mut copy);
+        drop(black_box(copy));
+    });
+    both.saturating_sub(copying)
+}
+
+fn larger(model: &Model, names: &Names, lent: &Lent) {
+    let body = names.bodies[0];
+    let rust = time(|| drop(black_box(body_bounding_box(model, body))));
+    row("box", rust, time(|| drop(black_box(lent.bounding_box(0, 0)))));
+    let rust = time(|| drop(black_box(body_volume(model, body))));
+    row("volume", rust, time(|| drop(black_box(lent.volume(0, 0)))));
+    for (what, geometry) in [("report, topology", false), ("report, 3 samples", true)] {
+        let options = CheckOptions { geometry, edge_samples: 3 };
+        let rust = time(|| drop(black_box(check_body(model, body, &options))));
+        row(what, rust, time(|| drop(black_box(lent.check(0, geometry, 3, 16, 0)))));
+    }
+    // The Rust copies a model's tables as far as they are used, ours has all of its memory copied: splits are timed without that.
+    let rust = on_a_copy(model, |model| drop(black_box(split_line_edge(model, names.edges[0], 0.5))));
+    let ours = on_a_copy(lent, |lent| drop(black_box(lent.split_alone(0, 0.5))));
+    row("split", rust, ours);
 }
 
 fn main() {
@@ -98,6 +127,7 @@ fn main() {
                 });
                 row(["faces", "edges", "vertices"][which], rust, ours);
             }
+            larger(model, &names, &lent);
         }
     }
 }

@@ -1,5 +1,5 @@
-//! Random models, compared as `calls` does, by the calls that the station does not export yet:
-//! `coming splits | boxes | reports [models] [seed]`. The exit status is 1 where anything differs.
+//! Random models, compared as `calls` does, by the station's larger calls:
+//! `measures splits | boxes | reports [models] [seed]`. The exit status is 1 where anything differs.
 
 use std::env;
 use std::process::ExitCode;
@@ -197,7 +197,7 @@ fn main() -> ExitCode {
     let number = |k: usize, default: u64| words.get(k).map_or(Some(default), |w| w.parse().ok());
     let (Some(what), Some(count), Some(seed)) = (words.first(), number(1, 20_000), number(2, 1))
     else {
-        eprintln!("usage: coming splits | boxes | reports [models] [seed]");
+        eprintln!("usage: measures splits | boxes | reports [models] [seed]");
         return ExitCode::from(2);
     };
     let names = Names::new();

@@ -1,5 +1,4 @@
-//! Calls that the station does not export yet, as a C program will link them: splits, boxes, volumes and
-//! the checker. Each answer is numbers: 0 and the value's, or the refusal alone.
+//! The station's larger calls, as a C program links them: splits, boxes, volumes and the checker. Each answer is numbers: 0 and the value's, or the refusal alone.
 
 use models::plain::bits;
 
@@ -59,7 +58,7 @@ unsafe extern "C" {
         e: usize,
         list: *mut u32,
         l: usize,
-        value: *mut [u32; 3],
+        value: *mut [usize; 3],
     ) -> u32;
 }
 
@@ -79,9 +78,8 @@ fn cleared(marks: &[Vec<u8>], answer: Vec<u64>) -> Vec<u64> {
 }
 
 impl Lent {
-    /// Both edges and the vertex. A refusal must leave all memory as it was.
-    pub fn split(&mut self, edge: usize, fraction: f64) -> Vec<u64> {
-        let before = self.clone();
+    /// The number, and both edges and the vertex.
+    pub fn split_alone(&mut self, edge: usize, fraction: f64) -> (u32, [u32; 3]) {
         let mut value = [UNTOUCHED; 3];
         // SAFETY: the call writes to the lent memory and to the value, and keeps no address.
         let number = unsafe {
@@ -96,6 +94,13 @@ impl Lent {
                 &mut value,
             )
         };
+        (number, value)
+    }
+
+    /// The same as numbers. A refusal must leave all memory as it was.
+    pub fn split(&mut self, edge: usize, fraction: f64) -> Vec<u64> {
+        let before = self.clone();
+        let (number, value) = self.split_alone(edge, fraction);
         if number != 0 && *self != before {
             return vec![WROTE.into()];
         }
@@ -175,7 +180,7 @@ impl Lent {
         let mut marks = self.marks(mark);
         let [faces, edges, _] = &mut marks;
         let mut list = vec![UNTOUCHED; 4 * places];
-        let mut value = [UNTOUCHED; 3];
+        let mut value = [usize::MAX; 3];
         // SAFETY: as above, and it writes to the list.
         let number = unsafe {
             brunskerl_check_body(
@@ -198,20 +203,20 @@ impl Lent {
         };
         let [faults, kept, unchecked] = value;
         if number != 0 {
-            let untouched = value == [UNTOUCHED; 3] && list.iter().all(|&x| x == UNTOUCHED);
+            let untouched = value == [usize::MAX; 3] && list.iter().all(|&x| x == UNTOUCHED);
             let given = if untouched { number } else { WROTE };
             return (cleared(&marks[..2], vec![given.into()]), 0);
         }
-        let front = 4 * (kept as usize).min(places);
+        let front = 4 * kept.min(places);
         let rest = &list[front..];
-        if kept != faults.min(places as u32) || rest.iter().any(|&x| x != UNTOUCHED) {
+        if kept != faults.min(places) || rest.iter().any(|&x| x != UNTOUCHED) {
             return (vec![WROTE.into()], 0);
         }
         let faults_kept = list[..front].chunks(4).flat_map(|fault| {
             let [kind, class, id, reason] = [0, 1, 2, 3].map(|k| u64::from(fault[k]));
             [reason, kind, class, id]
         });
-        let given = [0, unchecked.into()].into_iter().chain(faults_kept).collect();
-        (cleared(&marks[..2], given), faults as usize)
+        let given = [0, unchecked as u64].into_iter().chain(faults_kept).collect();
+        (cleared(&marks[..2], given), faults)
     }
 }
