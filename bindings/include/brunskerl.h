@@ -1,0 +1,123 @@
+/* Brunskerl: the station's calls, for C. Link with libstation.a (rt staticlib station).
+ *
+ * A model lies in memory that the caller lends: the ten capacities (room), words and floats. BRUNSKERL_WORDS and
+ * BRUNSKERL_REALS say how long they must be. Tables, in the order of the capacities: bodies, regions, shells, faces, loops, fins,
+ * edges, vertices, curves, surfaces. Ids are slot numbers from 0; nothing is removed.
+ *
+ * Each call returns 0 or the refusal's number, unless it says otherwise; a refusal leaves every table, list and slot as it was.
+ *   1 bad argument   2 no such record   4 degenerate   6 not a solid   7 not carried, or a sign in doubt   8 no room   9 unreadable
+ *
+ * A record's fields, as `value` and `floats` hold them. An optional id is a tag, 0 for none or 1, and the id. A lookup gives the lengths
+ * of the record's lists behind its fields; an insert and a set take the fields alone, and the lists are filled entry by entry.
+ *   body     kind (0 acorn, 1 wire, 2 sheet, 3 solid, 4 general)              | regions
+ *   region   body, solid (0 or 1)                                             | shells
+ *   shell    region                                                           | faces, wire edges, acorn vertices
+ *   face     front shell (optional), back shell (optional), surface (optional), sense (0 positive, 1 negative) | loops
+ *   loop     face                                                             | fins
+ *   fin      loop, edge, sense, pcurve mark (0 or 1)
+ *   edge     start (optional), end (optional), curve (optional), 1 if it has a tolerance of its own | fins; floats: that tolerance
+ *   vertex   1 if it has a tolerance of its own; floats: x, y, z, that tolerance
+ *   curve, surface  0 line, 1 plane, 2 other; floats: origin x, y, z, direction or normal x, y, z
+ *
+ * The lists by number: 0 regions of a body, 1 shells of a region, 2 faces, 3 wire edges and 4 acorn vertices of a shell, 5 loops of a
+ * face, 6 fins of a loop, 7 fins of an edge.
+ */
+#ifndef BRUNSKERL_H
+#define BRUNSKERL_H
+
+#include <stddef.h>
+#include <stdint.h>
+
+/* The lent memory, as each call takes it: to read, to write, and to write to the lists alone. */
+#define BRUNSKERL_MEMORY const size_t (*room)[10], const uint32_t *words, size_t n, const double *reals, size_t m
+#define BRUNSKERL_MEMORY_OUT const size_t (*room)[10], uint32_t *words, size_t n, double *reals, size_t m
+#define BRUNSKERL_LISTS_OUT const size_t (*room)[10], uint32_t *words, size_t n, const double *reals, size_t m
+
+/* How many words and floats a model of these capacities takes. */
+#define BRUNSKERL_WORDS(r) (10 + 18 * (r)[0] + 19 * (r)[1] + 836 * (r)[2] + 24 * (r)[3] + 1026 * (r)[4] + 4 * (r)[5] + 16 * (r)[6] + (r)[7] + (r)[8] + (r)[9])
+#define BRUNSKERL_REALS(r) (1 + (r)[6] + 4 * (r)[7] + 6 * (r)[8] + 6 * (r)[9])
+
+#ifdef __cplusplus
+extern "C" {
+#endif
+
+/* An empty model with a session precision: 9 where the capacities or lengths are wrong, 1 for a precision that is none. */
+uint32_t brunskerl_make(BRUNSKERL_MEMORY_OUT, double precision);
+uint32_t brunskerl_precision(BRUNSKERL_MEMORY, double (*value)[1]);
+
+/* Lookups: 9, 2. */
+uint32_t brunskerl_body(BRUNSKERL_MEMORY, size_t id, uint32_t (*value)[2]);
+uint32_t brunskerl_region(BRUNSKERL_MEMORY, size_t id, uint32_t (*value)[3]);
+uint32_t brunskerl_shell(BRUNSKERL_MEMORY, size_t id, uint32_t (*value)[4]);
+uint32_t brunskerl_face(BRUNSKERL_MEMORY, size_t id, uint32_t (*value)[8]);
+uint32_t brunskerl_loop(BRUNSKERL_MEMORY, size_t id, uint32_t (*value)[2]);
+uint32_t brunskerl_fin(BRUNSKERL_MEMORY, size_t id, uint32_t (*value)[4]);
+uint32_t brunskerl_edge(BRUNSKERL_MEMORY, size_t id, uint32_t (*value)[8], double (*floats)[1]);
+uint32_t brunskerl_vertex(BRUNSKERL_MEMORY, size_t id, uint32_t (*value)[1], double (*floats)[4]);
+uint32_t brunskerl_curve(BRUNSKERL_MEMORY, size_t id, uint32_t (*value)[1], double (*floats)[6]);
+uint32_t brunskerl_surface(BRUNSKERL_MEMORY, size_t id, uint32_t (*value)[1], double (*floats)[6]);
+
+/* Inserts: 9, 1, 8. The new record's id is put in its slot. */
+uint32_t brunskerl_insert_body(BRUNSKERL_MEMORY_OUT, const uint32_t (*value)[1], uint32_t (*id)[1]);
+uint32_t brunskerl_insert_region(BRUNSKERL_MEMORY_OUT, const uint32_t (*value)[2], uint32_t (*id)[1]);
+uint32_t brunskerl_insert_shell(BRUNSKERL_MEMORY_OUT, const uint32_t (*value)[1], uint32_t (*id)[1]);
+uint32_t brunskerl_insert_face(BRUNSKERL_MEMORY_OUT, const uint32_t (*value)[7], uint32_t (*id)[1]);
+uint32_t brunskerl_insert_loop(BRUNSKERL_MEMORY_OUT, const uint32_t (*value)[1], uint32_t (*id)[1]);
+uint32_t brunskerl_insert_fin(BRUNSKERL_MEMORY_OUT, const uint32_t (*value)[4], uint32_t (*id)[1]);
+uint32_t brunskerl_insert_edge(BRUNSKERL_MEMORY_OUT, const uint32_t (*value)[7], const double (*floats)[1], uint32_t (*id)[1]);
+uint32_t brunskerl_insert_vertex(BRUNSKERL_MEMORY_OUT, const uint32_t (*value)[1], const double (*floats)[4], uint32_t (*id)[1]);
+uint32_t brunskerl_insert_curve(BRUNSKERL_MEMORY_OUT, const uint32_t (*value)[1], const double (*floats)[6], uint32_t (*id)[1]);
+uint32_t brunskerl_insert_surface(BRUNSKERL_MEMORY_OUT, const uint32_t (*value)[1], const double (*floats)[6], uint32_t (*id)[1]);
+
+/* Edits of a record's fields; its lists stay: 9, 1, 2. set_fin_geometry marks a fin as one with a pcurve. */
+uint32_t brunskerl_set_body(BRUNSKERL_MEMORY_OUT, size_t id, const uint32_t (*value)[1]);
+uint32_t brunskerl_set_region(BRUNSKERL_MEMORY_OUT, size_t id, const uint32_t (*value)[2]);
+uint32_t brunskerl_set_shell(BRUNSKERL_MEMORY_OUT, size_t id, const uint32_t (*value)[1]);
+uint32_t brunskerl_set_face(BRUNSKERL_MEMORY_OUT, size_t id, const uint32_t (*value)[7]);
+uint32_t brunskerl_set_loop(BRUNSKERL_MEMORY_OUT, size_t id, const uint32_t (*value)[1]);
+uint32_t brunskerl_set_fin(BRUNSKERL_MEMORY_OUT, size_t id, const uint32_t (*value)[4]);
+uint32_t brunskerl_set_edge(BRUNSKERL_MEMORY_OUT, size_t id, const uint32_t (*value)[7], const double (*floats)[1]);
+uint32_t brunskerl_set_vertex(BRUNSKERL_MEMORY_OUT, size_t id, const uint32_t (*value)[1], const double (*floats)[4]);
+uint32_t brunskerl_set_curve(BRUNSKERL_MEMORY_OUT, size_t id, const uint32_t (*value)[1], const double (*floats)[6]);
+uint32_t brunskerl_set_surface(BRUNSKERL_MEMORY_OUT, size_t id, const uint32_t (*value)[1], const double (*floats)[6]);
+uint32_t brunskerl_set_fin_geometry(BRUNSKERL_MEMORY_OUT, size_t id);
+
+/* Whether a record exists, by its table, 0 to 7: 9, 1. */
+uint32_t brunskerl_contains(BRUNSKERL_MEMORY, uint32_t table, size_t id, uint32_t (*value)[1]);
+
+/* Entries of the lists, by the list's number: 9, 1 for another number, 2, 1 for a place that is not there, 8 for a full list. */
+uint32_t brunskerl_list_entry(BRUNSKERL_MEMORY, size_t list, size_t id, size_t place, uint32_t (*entry)[1]);
+uint32_t brunskerl_put_entry(BRUNSKERL_LISTS_OUT, size_t list, size_t id, size_t place, uint32_t entry);
+uint32_t brunskerl_append_entry(BRUNSKERL_LISTS_OUT, size_t list, size_t id, uint32_t entry);
+uint32_t brunskerl_strike_entry(BRUNSKERL_LISTS_OUT, size_t list, size_t id, size_t place);
+
+/* Walks: 9, 8 for short marks, 2, 8 for a short list. The number is put in `code`; what is returned is how many ids stand in the front of
+ * `out`. Marks are bytes, one for each record of the capacity; they may hold anything, and are left zero. */
+size_t brunskerl_body_faces(BRUNSKERL_MEMORY, size_t body, uint8_t *faces, size_t f, uint32_t *out, size_t o, uint32_t *code);
+size_t brunskerl_body_edges(BRUNSKERL_MEMORY, size_t body, uint8_t *faces, size_t f, uint8_t *edges, size_t e, uint32_t *out, size_t o, uint32_t *code);
+size_t brunskerl_body_vertices(BRUNSKERL_MEMORY, size_t body, uint8_t *faces, size_t f, uint8_t *edges, size_t e, uint8_t *vertices, size_t v, uint32_t *out, size_t o, uint32_t *code);
+
+/* The ends of a fin in its direction, each a tag and an id: 9, 2. */
+uint32_t brunskerl_fin_vertices(BRUNSKERL_MEMORY, size_t fin, uint32_t (*ends)[4]);
+
+/* The box's two corners, and the volume. */
+uint32_t brunskerl_body_bounding_box(BRUNSKERL_MEMORY, size_t body, uint8_t *faces, size_t f, uint8_t *edges, size_t e, uint8_t *vertices, size_t v, double (*corners)[6]);
+uint32_t brunskerl_body_volume(BRUNSKERL_MEMORY, size_t body, uint8_t *faces, size_t f, double (*volume)[1]);
+
+/* The parameters of an edge's ends on its line, and the split at a fraction between them: that edge, the new edge, the new
+ * vertex. */
+uint32_t brunskerl_edge_parameter_bounds(BRUNSKERL_MEMORY, size_t edge, double (*bounds)[2]);
+uint32_t brunskerl_split_line_edge(BRUNSKERL_MEMORY_OUT, size_t edge, double fraction, uint32_t (*ids)[3]);
+
+/* The report: geometry is checked where that number is not 0; 9, 8 for short marks, 1 for more than 255 samples, 2. The counts are all faults,
+ * those kept in `list`, and the checks that could not be made. A fault is four words: kind, class (the entity's table), id, reason. */
+uint32_t brunskerl_check_body(BRUNSKERL_MEMORY, size_t body, uint32_t geometry, size_t samples, uint8_t *faces, size_t f, uint8_t *edges, size_t e, uint32_t *list, size_t l, size_t (*counts)[3]);
+
+/* 1 where the body is fit to saw: geometry checked with three samples, no fault, nothing unchecked. */
+uint32_t brunskerl_fit_to_saw(BRUNSKERL_MEMORY, size_t body, uint8_t *faces, size_t f, uint8_t *edges, size_t e, uint32_t (*fit)[1]);
+
+#ifdef __cplusplus
+}
+#endif
+
+#endif

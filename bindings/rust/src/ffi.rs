@@ -1,0 +1,71 @@
+//! The station's calls as they are exported; `include/brunskerl.h` says what each takes.
+
+pub type Room = *const [usize; 10];
+
+/// The calls that only read, and those that write, each behind the five words that name the lent memory.
+macro_rules! calls {
+    ($($read:ident($($a:ident: $A:ty),*) -> $R:ty;)* ; $($write:ident($($b:ident: $B:ty),*) -> $W:ty;)*) => {
+        unsafe extern "C" {
+            $(pub fn $read(room: Room, words: *const u32, n: usize, reals: *const f64, m: usize, $($a: $A),*) -> $R;)*
+            $(pub fn $write(room: Room, words: *mut u32, n: usize, reals: *mut f64, m: usize, $($b: $B),*) -> $W;)*
+        }
+    };
+}
+
+calls! {
+    brunskerl_precision(value: *mut [f64; 1]) -> u32;
+    brunskerl_body(id: usize, value: *mut [u32; 2]) -> u32;
+    brunskerl_region(id: usize, value: *mut [u32; 3]) -> u32;
+    brunskerl_shell(id: usize, value: *mut [u32; 4]) -> u32;
+    brunskerl_face(id: usize, value: *mut [u32; 8]) -> u32;
+    brunskerl_loop(id: usize, value: *mut [u32; 2]) -> u32;
+    brunskerl_fin(id: usize, value: *mut [u32; 4]) -> u32;
+    brunskerl_edge(id: usize, value: *mut [u32; 8], floats: *mut [f64; 1]) -> u32;
+    brunskerl_vertex(id: usize, value: *mut [u32; 1], floats: *mut [f64; 4]) -> u32;
+    brunskerl_curve(id: usize, value: *mut [u32; 1], floats: *mut [f64; 6]) -> u32;
+    brunskerl_surface(id: usize, value: *mut [u32; 1], floats: *mut [f64; 6]) -> u32;
+    brunskerl_list_entry(list: usize, id: usize, place: usize, entry: *mut [u32; 1]) -> u32;
+    brunskerl_fin_vertices(fin: usize, ends: *mut [u32; 4]) -> u32;
+    brunskerl_edge_parameter_bounds(edge: usize, bounds: *mut [f64; 2]) -> u32;
+    brunskerl_body_faces(body: usize, faces: *mut u8, f: usize, out: *mut u32, o: usize, code: *mut u32) -> usize;
+    brunskerl_body_edges(body: usize, faces: *mut u8, f: usize, edges: *mut u8, e: usize, out: *mut u32, o: usize, code: *mut u32) -> usize;
+    brunskerl_body_vertices(
+        body: usize, faces: *mut u8, f: usize, edges: *mut u8, e: usize, vertices: *mut u8, v: usize, out: *mut u32, o: usize, code: *mut u32
+    ) -> usize;
+    brunskerl_body_bounding_box(
+        body: usize, faces: *mut u8, f: usize, edges: *mut u8, e: usize, vertices: *mut u8, v: usize, corners: *mut [f64; 6]
+    ) -> u32;
+    brunskerl_check_body(
+        body: usize, geometry: u32, samples: usize, faces: *mut u8, f: usize, edges: *mut u8, e: usize, list: *mut u32, l: usize,
+        counts: *mut [usize; 3]
+    ) -> u32;
+    brunskerl_fit_to_saw(body: usize, faces: *mut u8, f: usize, edges: *mut u8, e: usize, fit: *mut [u32; 1]) -> u32;
+    brunskerl_body_volume(body: usize, faces: *mut u8, f: usize, volume: *mut [f64; 1]) -> u32;
+    ;
+    brunskerl_make(precision: f64) -> u32;
+    brunskerl_insert_body(value: *const [u32; 1], id: *mut [u32; 1]) -> u32;
+    brunskerl_insert_region(value: *const [u32; 2], id: *mut [u32; 1]) -> u32;
+    brunskerl_insert_shell(value: *const [u32; 1], id: *mut [u32; 1]) -> u32;
+    brunskerl_insert_face(value: *const [u32; 7], id: *mut [u32; 1]) -> u32;
+    brunskerl_insert_loop(value: *const [u32; 1], id: *mut [u32; 1]) -> u32;
+    brunskerl_insert_fin(value: *const [u32; 4], id: *mut [u32; 1]) -> u32;
+    brunskerl_insert_edge(value: *const [u32; 7], floats: *const [f64; 1], id: *mut [u32; 1]) -> u32;
+    brunskerl_insert_vertex(value: *const [u32; 1], floats: *const [f64; 4], id: *mut [u32; 1]) -> u32;
+    brunskerl_insert_curve(value: *const [u32; 1], floats: *const [f64; 6], id: *mut [u32; 1]) -> u32;
+    brunskerl_insert_surface(value: *const [u32; 1], floats: *const [f64; 6], id: *mut [u32; 1]) -> u32;
+    brunskerl_set_body(id: usize, value: *const [u32; 1]) -> u32;
+    brunskerl_set_region(id: usize, value: *const [u32; 2]) -> u32;
+    brunskerl_set_shell(id: usize, value: *const [u32; 1]) -> u32;
+    brunskerl_set_face(id: usize, value: *const [u32; 7]) -> u32;
+    brunskerl_set_loop(id: usize, value: *const [u32; 1]) -> u32;
+    brunskerl_set_fin(id: usize, value: *const [u32; 4]) -> u32;
+    brunskerl_set_edge(id: usize, value: *const [u32; 7], floats: *const [f64; 1]) -> u32;
+    brunskerl_set_vertex(id: usize, value: *const [u32; 1], floats: *const [f64; 4]) -> u32;
+    brunskerl_set_curve(id: usize, value: *const [u32; 1], floats: *const [f64; 6]) -> u32;
+    brunskerl_set_surface(id: usize, value: *const [u32; 1], floats: *const [f64; 6]) -> u32;
+    brunskerl_set_fin_geometry(id: usize) -> u32;
+    brunskerl_put_entry(list: usize, id: usize, place: usize, entry: u32) -> u32;
+    brunskerl_append_entry(list: usize, id: usize, entry: u32) -> u32;
+    brunskerl_split_line_edge(edge: usize, fraction: f64, ids: *mut [u32; 3]) -> u32;
+    brunskerl_strike_entry(list: usize, id: usize, place: usize) -> u32;
+}

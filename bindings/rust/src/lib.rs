@@ -1,0 +1,539 @@
+//! The station's proved calls on models of cut stone, safe to call from Rust.
+//!
+//! A [`Model`] owns the memory that it lends to the calls. Nothing is merged: a call does all that it says, or is refused with a
+//! [`Refusal`] and leaves the model as it was. A [`Report`] counts what could not be measured as unchecked, never as sound.
+//!
+//! The example `lintel` builds a box, checks it, splits an edge and prints the report.
+
+mod ffi;
+mod records;
+mod stone;
+mod words;
+
+use records::optional;
+
+pub use records::{BodyKind, Carrier, Edge, Face, Fin, List, Region, Sense, Vertex};
+pub use words::{Entity, Fault, Refusal};
+
+/// 01's largest tables: bodies, regions, shells, faces, loops, fins, edges, vertices, curves, surfaces.
+pub const LARGEST: [usize; 10] = [64, 128, 128, 512, 512, 4096, 2048, 2048, 2048, 512];
+
+/// How many words and floats a record takes, by table.
+const WORDS: [usize; 10] = [18, 19, 836, 24, 1026, 4, 16, 1, 1, 1];
+const REALS: [usize; 10] = [0, 0, 0, 0, 0, 0, 1, 4, 6, 6];
+
+fn needed(first: usize, strides: [usize; 10], room: [usize; 10]) -> usize {
+    first + strides.iter().zip(room).map(|(s, n)| s * n).sum::<usize>()
+}
+
+/// The stones of a job, in tables of fixed capacities.
+#[derive(Clone, Debug)]
+pub struct Model {
+    room: [usize; 10],
+    words: Vec<u32>,
+    reals: Vec<f64>,
+}
+
+/// Calls that read, and calls that write: the lent memory, then what the call takes.
+macro_rules! ask {
+    ($model:ident, $call:ident($($given:expr),*)) => {
+        // SAFETY: the pointers and lengths are those of slices that live through the call, which keeps no address.
+        unsafe {
+            ffi::$call(&$model.room, $model.words.as_ptr(), $model.words.len(), $model.reals.as_ptr(), $model.reals.len(), $($given),*)
+        }
+    };
+}
+
+macro_rules! tell {
+    ($model:ident, $call:ident($($given:expr),*)) => {
+        Refusal::of(
+            // SAFETY: as above, and the model is borrowed to be written to.
+            unsafe {
+                ffi::$call(&$model.room, $model.words.as_mut_ptr(), $model.words.len(), $model.reals.as_mut_ptr(), $model.reals.len(), $($given),*)
+            },
+        )
+    };
+}
+
+macro_rules! insert {
+    ($model:ident, $call:ident($($given:expr),*)) => {{
+        let mut id = [0];
+        tell!($model, $call($($given,)* &mut id)).map(|()| id[0])
+    }};
+}
+
+impl Model {
+    /// An empty model of these capacities, each at most that of [`LARGEST`], with a session precision.
+    pub fn new(room: [usize; 10], precision: f64) -> Result<Self, Refusal> {
+        if room.iter().zip(LARGEST).any(|(n, most)| *n > most) {
+            return Err(Refusal::Unreadable);
+        }
+        let mut model = Self {
+            room,
+            words: vec![0; needed(10, WORDS, room)],
+            reals: vec![0.0; needed(1, REALS, room)],
+        };
+        tell!(model, brunskerl_make(precision)).map(|()| model)
+    }
+
+    pub fn precision(&self) -> Result<f64, Refusal> {
+        let mut value = [0.0];
+        Refusal::of(ask!(self, brunskerl_precision(&mut value))).map(|()| value[0])
+    }
+
+    // ---- inserts: each gives the new record's id
+
+    pub fn insert_body(&mut self, kind: BodyKind) -> Result<u32, Refusal> {
+        insert!(self, brunskerl_insert_body(&[kind as u32]))
+    }
+
+    pub fn insert_region(&mut self, region: Region) -> Result<u32, Refusal> {
+        insert!(self, brunskerl_insert_region(&region.value()))
+    }
+
+    pub fn insert_shell(&mut self, region: u32) -> Result<u32, Refusal> {
+        insert!(self, brunskerl_insert_shell(&[region]))
+    }
+
+    pub fn insert_face(&mut self, face: Face) -> Result<u32, Refusal> {
+        insert!(self, brunskerl_insert_face(&face.value()))
+    }
+
+    pub fn insert_loop(&mut self, face: u32) -> Result<u32, Refusal> {
+        insert!(self, brunskerl_insert_loop(&[face]))
+    }
+
+    pub fn insert_fin(&mut self, fin: Fin) -> Result<u32, Refusal> {
+        insert!(self, brunskerl_insert_fin(&fin.value()))
+    }
+
+    pub fn insert_edge(&mut self, edge: Edge) -> Result<u32, Refusal> {
+        let (value, floats) = edge.value();
+        insert!(self, brunskerl_insert_edge(&value, &floats))
+    }
+
+    pub fn insert_vertex(&mut self, vertex: Vertex) -> Result<u32, Refusal> {
+        let (value, floats) = vertex.value();
+        insert!(self, brunskerl_insert_vertex(&value, &floats))
+    }
+
+    pub fn insert_curve(&mut self, curve: Carrier) -> Result<u32, Refusal> {
+        let (value, floats) = curve.value();
+        insert!(self, brunskerl_insert_curve(&value, &floats))
+    }
+
+    pub fn insert_surface(&mut self, surface: Carrier) -> Result<u32, Refusal> {
+        let (value, floats) = surface.value();
+        insert!(self, brunskerl_insert_surface(&value, &floats))
+    }
+
+    // ---- edits: the fields of a record, its lists kept
+
+    pub fn set_body(&mut self, id: u32, kind: BodyKind) -> Result<(), Refusal> {
+        tell!(self, brunskerl_set_body(id as usize, &[kind as u32]))
+    }
+
+    pub fn set_region(&mut self, id: u32, region: Region) -> Result<(), Refusal> {
+        tell!(self, brunskerl_set_region(id as usize, &region.value()))
+    }
+
+    pub fn set_shell(&mut self, id: u32, region: u32) -> Result<(), Refusal> {
+        tell!(self, brunskerl_set_shell(id as usize, &[region]))
+    }
+
+    pub fn set_face(&mut self, id: u32, face: Face) -> Result<(), Refusal> {
+        tell!(self, brunskerl_set_face(id as usize, &face.value()))
+    }
+
+    pub fn set_loop(&mut self, id: u32, face: u32) -> Result<(), Refusal> {
+        tell!(self, brunskerl_set_loop(id as usize, &[face]))
+    }
+
+    pub fn set_fin(&mut self, id: u32, fin: Fin) -> Result<(), Refusal> {
+        tell!(self, brunskerl_set_fin(id as usize, &fin.value()))
+    }
+
+    /// Marks the fin as one with a pcurve of its own; its contents are not carried.
+    pub fn set_fin_geometry(&mut self, id: u32) -> Result<(), Refusal> {
+        tell!(self, brunskerl_set_fin_geometry(id as usize))
+    }
+
+    pub fn set_edge(&mut self, id: u32, edge: Edge) -> Result<(), Refusal> {
+        let (value, floats) = edge.value();
+        tell!(self, brunskerl_set_edge(id as usize, &value, &floats))
+    }
+
+    pub fn set_vertex(&mut self, id: u32, vertex: Vertex) -> Result<(), Refusal> {
+        let (value, floats) = vertex.value();
+        tell!(self, brunskerl_set_vertex(id as usize, &value, &floats))
+    }
+
+    pub fn set_curve(&mut self, id: u32, curve: Carrier) -> Result<(), Refusal> {
+        let (value, floats) = curve.value();
+        tell!(self, brunskerl_set_curve(id as usize, &value, &floats))
+    }
+
+    pub fn set_surface(&mut self, id: u32, surface: Carrier) -> Result<(), Refusal> {
+        let (value, floats) = surface.value();
+        tell!(self, brunskerl_set_surface(id as usize, &value, &floats))
+    }
+
+    // ---- lists
+
+    pub fn append(&mut self, list: List, id: u32, entry: u32) -> Result<(), Refusal> {
+        tell!(self, brunskerl_append_entry(list as usize, id as usize, entry))
+    }
+
+    pub fn put(&mut self, list: List, id: u32, place: usize, entry: u32) -> Result<(), Refusal> {
+        tell!(self, brunskerl_put_entry(list as usize, id as usize, place, entry))
+    }
+
+    pub fn strike(&mut self, list: List, id: u32, place: usize) -> Result<(), Refusal> {
+        tell!(self, brunskerl_strike_entry(list as usize, id as usize, place))
+    }
+
+    /// A whole list of a record.
+    pub fn list(&self, list: List, id: u32) -> Result<Vec<u32>, Refusal> {
+        let mut entries = Vec::new();
+        loop {
+            let mut entry = [0];
+            match ask!(self, brunskerl_list_entry(list as usize, id as usize, entries.len(), &mut entry)) {
+                0 => entries.push(entry[0]),
+                1 => return Ok(entries),
+                number => Refusal::of(number)?,
+            }
+        }
+    }
+
+    // ---- lookups
+
+    pub fn body(&self, id: u32) -> Result<BodyKind, Refusal> {
+        let mut value = [0; 2];
+        Refusal::of(ask!(self, brunskerl_body(id as usize, &mut value)))?;
+        Ok(records::kind(value[0]))
+    }
+
+    pub fn region(&self, id: u32) -> Result<Region, Refusal> {
+        let mut value = [0; 3];
+        Refusal::of(ask!(self, brunskerl_region(id as usize, &mut value)))?;
+        let [body, solid, _] = value;
+        Ok(Region { body, solid: solid != 0 })
+    }
+
+    /// The region that the shell names.
+    pub fn shell(&self, id: u32) -> Result<u32, Refusal> {
+        let mut value = [0; 4];
+        Refusal::of(ask!(self, brunskerl_shell(id as usize, &mut value)))?;
+        Ok(value[0])
+    }
+
+    pub fn face(&self, id: u32) -> Result<Face, Refusal> {
+        let mut value = [0; 8];
+        Refusal::of(ask!(self, brunskerl_face(id as usize, &mut value)))?;
+        let [a, front, b, back, c, surface, sense, _] = value;
+        Ok(Face {
+            front: optional(a, front),
+            back: optional(b, back),
+            surface: optional(c, surface),
+            sense: records::sense(sense),
+        })
+    }
+
+    /// The face that the loop names.
+    pub fn loop_(&self, id: u32) -> Result<u32, Refusal> {
+        let mut value = [0; 2];
+        Refusal::of(ask!(self, brunskerl_loop(id as usize, &mut value)))?;
+        Ok(value[0])
+    }
+
+    pub fn fin(&self, id: u32) -> Result<Fin, Refusal> {
+        let mut value = [0; 4];
+        Refusal::of(ask!(self, brunskerl_fin(id as usize, &mut value)))?;
+        let [owner, edge, sense, pcurve] = value;
+        Ok(Fin {
+            owner,
+            edge,
+            sense: records::sense(sense),
+            pcurve: pcurve != 0,
+        })
+    }
+
+    pub fn edge(&self, id: u32) -> Result<Edge, Refusal> {
+        let (mut value, mut floats) = ([0; 8], [0.0; 1]);
+        Refusal::of(ask!(self, brunskerl_edge(id as usize, &mut value, &mut floats)))?;
+        let [a, start, b, end, c, curve, own, _] = value;
+        Ok(Edge {
+            start: optional(a, start),
+            end: optional(b, end),
+            curve: optional(c, curve),
+            tolerance: (own != 0).then_some(floats[0]),
+        })
+    }
+
+    pub fn vertex(&self, id: u32) -> Result<Vertex, Refusal> {
+        let (mut value, mut floats) = ([0; 1], [0.0; 4]);
+        Refusal::of(ask!(self, brunskerl_vertex(id as usize, &mut value, &mut floats)))?;
+        let [x, y, z, own] = floats;
+        Ok(Vertex {
+            point: [x, y, z],
+            tolerance: (value[0] != 0).then_some(own),
+        })
+    }
+
+    pub fn curve(&self, id: u32) -> Result<Carrier, Refusal> {
+        let (mut value, mut floats) = ([0; 1], [0.0; 6]);
+        Refusal::of(ask!(self, brunskerl_curve(id as usize, &mut value, &mut floats)))?;
+        Ok(Carrier::of(value, floats))
+    }
+
+    pub fn surface(&self, id: u32) -> Result<Carrier, Refusal> {
+        let (mut value, mut floats) = ([0; 1], [0.0; 6]);
+        Refusal::of(ask!(self, brunskerl_surface(id as usize, &mut value, &mut floats)))?;
+        Ok(Carrier::of(value, floats))
+    }
+
+    // ---- walks
+
+    /// The ids of a walk. Ids that name no record may make it longer than its table; then a longer list is lent.
+    fn walked(&self, table: usize, mut walk: impl FnMut(&mut [u32], &mut u32) -> usize) -> Result<Vec<u32>, Refusal> {
+        let mut list = vec![0; self.room[table].max(1)];
+        loop {
+            let mut number = 0;
+            let count = walk(&mut list, &mut number);
+            match Refusal::of(number) {
+                Err(Refusal::NoRoom) => list.resize(2 * list.len(), 0),
+                answer => {
+                    list.truncate(count);
+                    return answer.map(|()| list);
+                }
+            }
+        }
+    }
+
+    pub fn body_faces(&self, body: u32) -> Result<Vec<u32>, Refusal> {
+        let [mut f, _, _] = self.marks();
+        self.walked(3, |out, number| {
+            ask!(
+                self,
+                brunskerl_body_faces(body as usize, f.as_mut_ptr(), f.len(), out.as_mut_ptr(), out.len(), number)
+            )
+        })
+    }
+
+    pub fn body_edges(&self, body: u32) -> Result<Vec<u32>, Refusal> {
+        let [mut f, mut e, _] = self.marks();
+        self.walked(6, |out, number| {
+            ask!(
+                self,
+                brunskerl_body_edges(
+                    body as usize,
+                    f.as_mut_ptr(),
+                    f.len(),
+                    e.as_mut_ptr(),
+                    e.len(),
+                    out.as_mut_ptr(),
+                    out.len(),
+                    number
+                )
+            )
+        })
+    }
+
+    pub fn body_vertices(&self, body: u32) -> Result<Vec<u32>, Refusal> {
+        let [mut f, mut e, mut v] = self.marks();
+        self.walked(7, |out, number| {
+            ask!(
+                self,
+                brunskerl_body_vertices(
+                    body as usize,
+                    f.as_mut_ptr(),
+                    f.len(),
+                    e.as_mut_ptr(),
+                    e.len(),
+                    v.as_mut_ptr(),
+                    v.len(),
+                    out.as_mut_ptr(),
+                    out.len(),
+                    number
+                )
+            )
+        })
+    }
+
+    /// The two ends of a fin, in its direction.
+    pub fn fin_vertices(&self, fin: u32) -> Result<[Option<u32>; 2], Refusal> {
+        let mut ends = [0; 4];
+        Refusal::of(ask!(self, brunskerl_fin_vertices(fin as usize, &mut ends)))?;
+        let [a, start, b, end] = ends;
+        Ok([optional(a, start), optional(b, end)])
+    }
+
+    // ---- measurements
+
+    /// Seen marks for faces, edges and vertices.
+    fn marks(&self) -> [Vec<u8>; 3] {
+        [3, 6, 7].map(|k| vec![0; self.room[k]])
+    }
+
+    /// The two corners of the body's box.
+    pub fn body_bounding_box(&self, body: u32) -> Result<[[f64; 3]; 2], Refusal> {
+        let [mut f, mut e, mut v] = self.marks();
+        let mut corners = [0.0; 6];
+        Refusal::of(ask!(
+            self,
+            brunskerl_body_bounding_box(
+                body as usize,
+                f.as_mut_ptr(),
+                f.len(),
+                e.as_mut_ptr(),
+                e.len(),
+                v.as_mut_ptr(),
+                v.len(),
+                &mut corners
+            )
+        ))?;
+        let [a, b, c, d, e, f] = corners;
+        Ok([[a, b, c], [d, e, f]])
+    }
+
+    pub fn body_volume(&self, body: u32) -> Result<f64, Refusal> {
+        let [mut f, ..] = self.marks();
+        let mut volume = [0.0];
+        Refusal::of(ask!(
+            self,
+            brunskerl_body_volume(body as usize, f.as_mut_ptr(), f.len(), &mut volume)
+        ))?;
+        Ok(volume[0])
+    }
+
+    /// The parameters of the edge's start and end on its line.
+    pub fn edge_parameter_bounds(&self, edge: u32) -> Result<[f64; 2], Refusal> {
+        let mut bounds = [0.0; 2];
+        Refusal::of(ask!(self, brunskerl_edge_parameter_bounds(edge as usize, &mut bounds)))?;
+        Ok(bounds)
+    }
+
+    // ---- splitting and checking
+
+    /// Splits an edge at a fraction of its length, whole or not at all.
+    pub fn split_line_edge(&mut self, edge: u32, fraction: f64) -> Result<Split, Refusal> {
+        let mut ids = [0; 3];
+        tell!(self, brunskerl_split_line_edge(edge as usize, fraction, &mut ids))?;
+        let [_, edge, vertex] = ids;
+        Ok(Split { edge, vertex })
+    }
+
+    /// Checks a body: its topology, and its geometry where a number of samples to an edge is given, at most 255.
+    pub fn check_body(&self, body: u32, samples: Option<u8>) -> Result<Report, Refusal> {
+        let [mut f, mut e, _] = self.marks();
+        let (geometry, samples) = (samples.is_some().into(), samples.unwrap_or(0).into());
+        let mut list = vec![0; 4 * 64];
+        loop {
+            let mut counts = [0; 3];
+            Refusal::of(ask!(
+                self,
+                brunskerl_check_body(
+                    body as usize,
+                    geometry,
+                    samples,
+                    f.as_mut_ptr(),
+                    f.len(),
+                    e.as_mut_ptr(),
+                    e.len(),
+                    list.as_mut_ptr(),
+                    list.len(),
+                    &mut counts
+                )
+            ))?;
+            let [total, kept, unchecked] = counts;
+            if kept == total {
+                let faults = list.chunks(4).take(kept).map(Fault::of).collect();
+                return Ok(Report { faults, unchecked });
+            }
+            list.resize(4 * total, 0);
+        }
+    }
+
+    /// Geometry checked with three samples to an edge, no fault, and nothing unchecked.
+    pub fn fit_to_saw(&self, body: u32) -> Result<bool, Refusal> {
+        let [mut f, mut e, _] = self.marks();
+        let mut fit = [0];
+        Refusal::of(ask!(
+            self,
+            brunskerl_fit_to_saw(body as usize, f.as_mut_ptr(), f.len(), e.as_mut_ptr(), e.len(), &mut fit)
+        ))?;
+        Ok(fit[0] != 0)
+    }
+
+    /// A fault in words, with the records beside it where the model tells them: 'vertex 12 lies off the surface of face 3'.
+    pub fn describe(&self, fault: &Fault) -> String {
+        match (fault.reason, fault.entity) {
+            (22, Entity::Vertex(v)) => named(fault, "the curve of edge", self.edges_at(v)),
+            (23, Entity::Vertex(v)) => named(fault, "the surface of face", self.faces_off(v)),
+            (24, Entity::Edge(e)) => named(fault, "the surface of face", self.faces_beside(e)),
+            _ => fault.to_string(),
+        }
+    }
+
+    fn edges_at(&self, vertex: u32) -> Vec<u32> {
+        let ends = |e: &u32| self.edge(*e).is_ok_and(|e| e.start == Some(vertex) || e.end == Some(vertex));
+        (0..self.room[6] as u32).filter(ends).collect()
+    }
+
+    fn faces_beside(&self, edge: u32) -> Vec<u32> {
+        let fins = self.list(List::FinsOfEdge, edge).unwrap_or_default();
+        let mut faces: Vec<u32> = fins.iter().filter_map(|&i| self.loop_(self.fin(i).ok()?.owner).ok()).collect();
+        faces.dedup();
+        faces
+    }
+
+    /// The faces at a vertex that it is measured to lie off.
+    fn faces_off(&self, vertex: u32) -> Vec<u32> {
+        let mut faces: Vec<u32> = self.edges_at(vertex).iter().flat_map(|&e| self.faces_beside(e)).collect();
+        faces.sort_unstable();
+        faces.dedup();
+        faces.retain(|&face| self.is_off(vertex, face).unwrap_or(false));
+        faces
+    }
+
+    fn is_off(&self, vertex: u32, face: u32) -> Option<bool> {
+        let vertex = self.vertex(vertex).ok()?;
+        let Carrier::Plane { origin, normal } = self.surface(self.face(face).ok()?.surface?).ok()? else {
+            return None;
+        };
+        let tolerance = vertex.tolerance.unwrap_or(self.precision().ok()? / 2.0);
+        let way: [f64; 3] = std::array::from_fn(|i| vertex.point[i] - origin[i]);
+        Some((normal[0] * way[0] + normal[1] * way[1] + normal[2] * way[2]).abs() > tolerance)
+    }
+}
+
+/// A fault with the records that it is about beside its entity; without them, as it stands.
+fn named(fault: &Fault, what: &str, ids: Vec<u32>) -> String {
+    if ids.is_empty() {
+        return fault.to_string();
+    }
+    let ids: Vec<String> = ids.iter().map(u32::to_string).collect();
+    format!("{} lies off {what} {} (reason {})", fault.entity, ids.join(" or "), fault.reason)
+}
+
+/// What a check found, in its order.
+#[derive(Clone, Debug, PartialEq, Eq)]
+pub struct Report {
+    pub faults: Vec<Fault>,
+    /// Measurements that could not be made; a body with any is not fit to saw.
+    pub unchecked: usize,
+}
+
+impl Report {
+    /// No fault, and nothing unchecked.
+    pub fn is_valid(&self) -> bool {
+        self.faults.is_empty() && self.unchecked == 0
+    }
+}
+
+/// The edge and the vertex that a split made. The old edge keeps the start, the new one has the end.
+#[derive(Clone, Copy, Debug, PartialEq, Eq)]
+pub struct Split {
+    pub edge: u32,
+    pub vertex: u32,
+}

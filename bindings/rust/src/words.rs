@@ -1,0 +1,154 @@
+//! Refusals and faults in words for an operator.
+
+use std::fmt;
+
+/// A refused call: nothing was changed.
+#[derive(Clone, Copy, Debug, PartialEq, Eq, Hash)]
+#[repr(u32)]
+pub enum Refusal {
+    BadArgument = 1,
+    NotFound = 2,
+    Degenerate = 4,
+    NotSolid = 6,
+    Unresolved = 7,
+    NoRoom = 8,
+    Unreadable = 9,
+}
+
+impl Refusal {
+    pub const ALL: [Self; 7] = [
+        Self::BadArgument,
+        Self::NotFound,
+        Self::Degenerate,
+        Self::NotSolid,
+        Self::Unresolved,
+        Self::NoRoom,
+        Self::Unreadable,
+    ];
+
+    /// The refusal of a number that a call returned, none for 0.
+    pub(crate) fn of(number: u32) -> Result<(), Self> {
+        if number == 0 {
+            return Ok(());
+        }
+        match Self::ALL.into_iter().find(|r| *r as u32 == number) {
+            Some(refusal) => Err(refusal),
+            None => unreachable!("no call is refused with {number}"),
+        }
+    }
+}
+
+impl fmt::Display for Refusal {
+    fn fmt(&self, f: &mut fmt::Formatter<'_>) -> fmt::Result {
+        f.write_str(match self {
+            Self::BadArgument => "refused: a value lies outside what the call takes",
+            Self::NotFound => "refused: a record that is named or needed does not exist",
+            Self::Degenerate => "refused: too short, too thin or empty at the session's precision",
+            Self::NotSolid => "refused: the body is not a solid",
+            Self::Unresolved => "refused: the geometry is not carried, or a sign is in doubt",
+            Self::NoRoom => "refused: no room is left in a table or list",
+            Self::Unreadable => "refused: the tables cannot be read",
+        })
+    }
+}
+
+impl std::error::Error for Refusal {}
+
+/// A record that a fault is put on.
+#[derive(Clone, Copy, Debug, PartialEq, Eq, Hash)]
+pub enum Entity {
+    Body(u32),
+    Region(u32),
+    Shell(u32),
+    Face(u32),
+    Loop(u32),
+    Fin(u32),
+    Edge(u32),
+    Vertex(u32),
+}
+
+impl Entity {
+    pub(crate) fn of(class: u32, id: u32) -> Self {
+        [
+            Self::Body,
+            Self::Region,
+            Self::Shell,
+            Self::Face,
+            Self::Loop,
+            Self::Fin,
+            Self::Edge,
+            Self::Vertex,
+        ][class as usize](id)
+    }
+}
+
+impl fmt::Display for Entity {
+    fn fmt(&self, f: &mut fmt::Formatter<'_>) -> fmt::Result {
+        match self {
+            Self::Body(i) => write!(f, "body {i}"),
+            Self::Region(i) => write!(f, "region {i}"),
+            Self::Shell(i) => write!(f, "shell {i}"),
+            Self::Face(i) => write!(f, "face {i}"),
+            Self::Loop(i) => write!(f, "loop {i}"),
+            Self::Fin(i) => write!(f, "fin {i}"),
+            Self::Edge(i) => write!(f, "edge {i}"),
+            Self::Vertex(i) => write!(f, "vertex {i}"),
+        }
+    }
+}
+
+/// What is wrong, by the number of the reason, behind the entity's name.
+const REASONS: [&str; 26] = [
+    "has no regions",
+    "has a solid as its first region, which must be the void around it",
+    "lists a region that does not exist",
+    "does not point back to the body that lists it",
+    "lists a shell that does not exist",
+    "does not point back to the region that lists it",
+    "lists a face that does not exist",
+    "points back to no shell that lists it",
+    "has no surface",
+    "lists a loop that does not exist",
+    "does not point back to the face that lists it",
+    "has no fins",
+    "lists a fin that does not exist",
+    "does not point back to the loop that lists it",
+    "names an edge that does not exist",
+    "does not list a fin that names it",
+    "names a vertex that does not exist",
+    "does not end where the next fin of its loop starts",
+    "is not used by exactly two fins",
+    "is used twice in the same direction",
+    "has no curve",
+    "lies off the curve of an edge that ends there",
+    "lies off the surface of a face that it belongs to",
+    "lies off the surface of a face that it borders",
+    "needs a curve or surface that does not exist",
+    "gives no finite measurement",
+];
+
+/// A fault: what is wrong, and with which record.
+#[derive(Clone, Copy, Debug, PartialEq, Eq, Hash)]
+pub struct Fault {
+    pub kind: u32,
+    pub entity: Entity,
+    pub reason: u32,
+}
+
+impl Fault {
+    /// A fault of four words.
+    pub(crate) fn of(words: &[u32]) -> Self {
+        Self {
+            kind: words[0],
+            entity: Entity::of(words[1], words[2]),
+            reason: words[3],
+        }
+    }
+}
+
+impl fmt::Display for Fault {
+    fn fmt(&self, f: &mut fmt::Formatter<'_>) -> fmt::Result {
+        let words = REASONS[self.reason as usize - 1];
+        write!(f, "{} {words} (reason {})", self.entity, self.reason)
+    }
+}
