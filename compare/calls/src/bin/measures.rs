@@ -1,16 +1,125 @@
-//! Random models, compared as `calls` does, by the station's larger calls:
-//! `measures splits | boxes | reports [models] [seed]`. The exit status is 1 where anything differs.
+//! Random models, compared as `calls` does, by the station's larger calls: `measures splits | boxes | reports
+//! [models] [seed]`; `measures wrong` for wrong stations, each of which must be seen. The exit status is 1 where
+//! anything differs.
 
 use std::env;
 use std::process::ExitCode;
 
-use calls::layout::{LARGEST, Lent};
+use calls::layout::{LARGEST, LISTS, Lent};
 use calls::tally::Tally;
 use gensolid_topo::Model;
 use models::original::{self, Names};
 use models::plain::{Carrier, Plain};
 use models::random::Random;
 use models::{Made, Sort, fraction, made};
+
+/// What a wrong station is, and what it makes of a right answer: of a split, with the memory before and
+/// behind it; of a box or a volume; of a report and the number of its faults.
+type Wrong = (&'static str, How);
+
+#[derive(Clone, Copy)]
+enum How {
+    Split(fn(&Lent, &mut Lent, usize, &[u64]) -> Option<Vec<u64>>),
+    Box(fn(&[u64]) -> Option<Vec<u64>>),
+    Volume(fn(&[u64]) -> Option<Vec<u64>>),
+    Report(fn(&(Vec<u64>, usize)) -> Option<(Vec<u64>, usize)>),
+}
+
+/// List j of record i, in the words.
+fn list_at(lent: &Lent, j: usize, i: usize) -> std::ops::Range<usize> {
+    let (table, place, ..) = LISTS[j];
+    let at = lent.word_at(table, i) + place;
+    at + 1..at + 1 + lent.words[at] as usize
+}
+
+/// The old fins of a split edge, each with the new one; a fin that does not run against the edge is left out.
+fn turned(before: &Lent, edge: usize) -> Vec<(u32, u32)> {
+    let fins = &before.words[list_at(before, 7, edge)];
+    let new = before.words[5]..;
+    let negative = |&(fin, _): &(u32, u32)| {
+        before.words[before.word_at(5, fin as usize) + 2] != 0
+    };
+    fins.iter().copied().zip(new).filter(negative).collect()
+}
+
+const WRONGS: [Wrong; 15] = [
+    ("puts every new fin after the old one", How::Split(|before, lent, edge, given| {
+        for (old, new) in turned(before, edge) {
+            let owner = before.words[before.word_at(5, old as usize)] as usize;
+            let list = list_at(lent, 6, owner);
+            let fins = &mut lent.words[list];
+            if let Some(at) = fins.windows(2).position(|pair| pair == [new, old]) {
+                fins.swap(at, at + 1);
+            }
+        }
+        Some(given.to_vec())
+    })),
+    ("leaves the old edge's end", How::Split(|before, lent, edge, given| {
+        let at = lent.word_at(6, edge) + 3;
+        lent.words[at] = before.words[at];
+        Some(given.to_vec())
+    })),
+    ("gives the second half the old start", How::Split(|before, lent, edge, given| {
+        let at = lent.word_at(6, given[2] as usize) + 1;
+        lent.words[at] = before.words[before.word_at(6, edge) + 1];
+        Some(given.to_vec())
+    })),
+    ("gives the new vertex no tolerance of its own", How::Split(|_, lent, _, given| {
+        let at = lent.word_at(7, given[3] as usize);
+        lent.words[at] = 0;
+        Some(given.to_vec())
+    })),
+    ("lists one new fin fewer in the new edge", How::Split(|_, lent, _, given| {
+        let at = lent.word_at(6, given[2] as usize) + 7;
+        lent.words[at] = lent.words[at].saturating_sub(1);
+        Some(given.to_vec())
+    })),
+    ("puts the new wire edge last", How::Split(|before, lent, edge, given| {
+        for shell in 0..before.words[2] as usize {
+            let list = list_at(lent, 3, shell);
+            let wires = &mut lent.words[list];
+            if let Some(at) = wires.iter().position(|&id| id as usize == edge) {
+                wires[at + 1..].rotate_left(1);
+            }
+        }
+        Some(given.to_vec())
+    })),
+    ("exchanges the box's corners", How::Box(|given| match given {
+        [0, a, b, c, rest @ ..] => Some([&[0], rest, &[*a, *b, *c]].concat()),
+        _ => None,
+    })),
+    ("gives 4 where a record is missing", How::Box(|given| (given == [2]).then(|| vec![4]))),
+    ("gives a volume that is one float off", How::Volume(|given| match given {
+        [0, v] => Some(vec![0, f64::from_bits(*v).next_up().to_bits()]),
+        _ => None,
+    })),
+    ("turns the volume's sign", How::Volume(|given| match given {
+        [0, v] => Some(vec![0, (-f64::from_bits(*v)).to_bits()]),
+        _ => None,
+    })),
+    ("gives 4 for a body that is not solid", How::Volume(|given| (given == [6]).then(|| vec![4]))),
+    ("counts the faults kept alone", How::Report(|(given, _)| {
+        Some((given.clone(), given.len().saturating_sub(2) / 4))
+    })),
+    ("leaves `unchecked` at 0", How::Report(|(given, total)| {
+        let mut given = given.clone();
+        *given.get_mut(1)? = 0;
+        Some((given, *total))
+    })),
+    ("tells the last fault first", How::Report(|(given, total)| {
+        let mut given = given.clone();
+        let faults = given.get_mut(2..)?;
+        let last = faults.len().min(4);
+        faults.rotate_right(last);
+        Some((given, *total))
+    })),
+    ("says another reason of the same kind", How::Report(|(given, total)| {
+        let mut given = given.clone();
+        let reason = given.get_mut(2)?;
+        *reason = if *reason == 5 { 3 } else { *reason };
+        Some((given, *total))
+    })),
+];
 
 /// Capacities for a model: at times just what it has, mostly more.
 fn room(plain: &Plain, random: &mut Random) -> [usize; 10] {
@@ -69,7 +178,13 @@ fn around_plane(plain: &mut Plain, random: &mut Random) -> Option<usize> {
 }
 
 /// Up to 50 splits, one after the other, on both sides.
-fn splits(tally: &mut Tally, names: &Names, mut made: Made, random: &mut Random) {
+fn splits(
+    tally: &mut Tally,
+    names: &Names,
+    mut made: Made,
+    random: &mut Random,
+    wrong: Option<How>,
+) {
     let mut near = made.near.clone();
     if random.one_in(3) {
         let mut plain = made.plain.clone();
@@ -107,7 +222,13 @@ fn splits(tally: &mut Tally, names: &Names, mut made: Made, random: &mut Random)
         } else {
             model = after;
         }
-        let given = lent.split(edge, at);
+        let before = lent.clone();
+        let mut given = lent.split(edge, at);
+        if let (Some(How::Split(wrong)), [0, ..]) = (wrong, &given[..])
+            && let Some(other) = wrong(&before, &mut lent, edge, &given)
+        {
+            given = other;
+        }
         tally.same("splits", &expected.numbers, &given, || {
             format!("split {step} of edge {edge} at {at:?}")
         });
@@ -136,22 +257,40 @@ fn splits(tally: &mut Tally, names: &Names, mut made: Made, random: &mut Random)
     }
 }
 
-fn boxes(tally: &mut Tally, names: &Names, made: &Made, random: &mut Random) {
+fn boxes(
+    tally: &mut Tally,
+    names: &Names,
+    made: &Made,
+    random: &mut Random,
+    wrong: Option<How>,
+) {
     let lent = laid(&made.plain, random);
     for body in 0..=made.plain.bodies.len() {
         let mark = random.bits() as u8;
         let told = original::boxed(&made.model, names, body);
         tally.met("box", &told.words);
-        let given = lent.bounding_box(body, mark);
+        let mut given = lent.bounding_box(body, mark);
+        if let Some(How::Box(wrong)) = wrong {
+            given = wrong(&given).unwrap_or(given);
+        }
         tally.same("boxes", &told.numbers, &given, || format!("body {body}"));
         let told = original::volume(&made.model, names, body);
         tally.met("volume", &told.words);
-        let given = lent.volume(body, mark);
+        let mut given = lent.volume(body, mark);
+        if let Some(How::Volume(wrong)) = wrong {
+            given = wrong(&given).unwrap_or(given);
+        }
         tally.same("volumes", &told.numbers, &given, || format!("body {body}"));
     }
 }
 
-fn reports(tally: &mut Tally, names: &Names, made: &Made, random: &mut Random) {
+fn reports(
+    tally: &mut Tally,
+    names: &Names,
+    made: &Made,
+    random: &mut Random,
+    wrong: Option<How>,
+) {
     let lent = laid(&made.plain, random);
     for body in 0..=made.plain.bodies.len() {
         for geometry in [false, true] {
@@ -177,7 +316,10 @@ fn reports(tally: &mut Tally, names: &Names, made: &Made, random: &mut Random) {
                 tally.met("reasons", format!("{:>2}", fault[0]));
             }
             let total = if refused { 0 } else { faults };
-            let given = lent.check(body, geometry, samples, places, mark);
+            let mut given = lent.check(body, geometry, samples, places, mark);
+            if let Some(How::Report(wrong)) = wrong {
+                given = wrong(&given).unwrap_or(given);
+            }
             tally.same("reports", &(expected, total), &given, || {
                 format!("body {body}, geometry {geometry}, {samples} samples, {places} places")
             });
@@ -192,32 +334,72 @@ fn reports(tally: &mut Tally, names: &Names, made: &Made, random: &mut Random) {
     });
 }
 
+/// One model, compared.
+fn compared(
+    tally: &mut Tally,
+    names: &Names,
+    what: &str,
+    [seed, number]: [u64; 2],
+    wrong: Option<How>,
+) {
+    let Some(made) = made(names, Sort::Several, seed, number, None) else {
+        return;
+    };
+    tally.begin(format!(
+        "model {number} of seed {seed}: {}",
+        made.told.join("; ")
+    ));
+    let mut random = Random::new(seed, number, 400);
+    match what {
+        "splits" => splits(tally, names, made, &mut random, wrong),
+        "boxes" => boxes(tally, names, &made, &mut random, wrong),
+        _ => reports(tally, names, &made, &mut random, wrong),
+    }
+}
+
+/// Each wrong station must be seen on one of the models.
+fn wrongs(names: &Names, count: u64, seed: u64) -> ExitCode {
+    let mut unseen = 0;
+    for (what, how) in WRONGS {
+        let asked = match how {
+            How::Split(_) => "splits",
+            How::Box(_) | How::Volume(_) => "boxes",
+            How::Report(_) => "reports",
+        };
+        let mut tally = Tally::quiet();
+        let mut number = 0;
+        while (tally.models as u64) < count && tally.differing() == 0 {
+            number += 1;
+            compared(&mut tally, names, asked, [seed, number], Some(how));
+        }
+        if tally.differing() == 0 {
+            println!("a station that {what}: not seen on {count} models");
+            unseen += 1;
+        } else {
+            println!("a station that {what}: seen on model {number}");
+        }
+    }
+    println!("{} wrong stations, {unseen} not seen", WRONGS.len());
+    ExitCode::from(u8::from(unseen > 0))
+}
+
 fn main() -> ExitCode {
     let words: Vec<String> = env::args().skip(1).collect();
     let number = |k: usize, default: u64| words.get(k).map_or(Some(default), |w| w.parse().ok());
     let (Some(what), Some(count), Some(seed)) = (words.first(), number(1, 20_000), number(2, 1))
     else {
-        eprintln!("usage: measures splits | boxes | reports [models] [seed]");
+        eprintln!("usage: measures splits | boxes | reports | wrong [models] [seed]");
         return ExitCode::from(2);
     };
     let names = Names::new();
+    if what == "wrong" {
+        return wrongs(&names, count, seed);
+    }
     let mut tally = Tally::default();
     let mut number = 0;
     while (tally.models as u64) < count {
         number += 1;
-        let Some(made) = made(&names, Sort::Several, seed, number, None) else {
-            continue;
-        };
-        tally.begin(format!(
-            "model {number} of seed {seed}: {}",
-            made.told.join("; ")
-        ));
-        let mut random = Random::new(seed, number, 400);
-        match what.as_str() {
-            "splits" => splits(&mut tally, &names, made, &mut random),
-            "boxes" => boxes(&mut tally, &names, &made, &mut random),
-            _ => reports(&mut tally, &names, &made, &mut random),
-        }
+        compared(&mut tally, &names, what, [seed, number], None);
     }
     tally.end()
 }
