@@ -71,7 +71,9 @@ fn larger(model: &Model, names: &Names, lent: &Lent) {
     }
     // The Rust copies a model's tables as far as they are used, ours has all of its memory copied: splits are timed without that.
     let rust = on_a_copy(model, |model| drop(black_box(split_line_edge(model, names.edges[0], 0.5))));
-    let ours = on_a_copy(lent, |lent| drop(black_box(lent.split_alone(0, 0.5))));
+    let ours = on_a_copy(lent, |lent| {
+        black_box(lent.split_alone(0, 0.5));
+    });
     row("split", rust, ours);
 }
 
