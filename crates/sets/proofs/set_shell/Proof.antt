@@ -16,7 +16,7 @@ same-length-2 : tie.Need-same-length-2
 same-length-2 c = search needs
 
 returns : tie.Need-returns
-returns c = (cc, (cc, cc))
+returns c = c .before .before .before .before .set-fields .ensures
 
 pub set-shell-spec : {M : Type 1} → statement M
 set-shell-spec =
