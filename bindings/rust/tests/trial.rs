@@ -63,3 +63,18 @@ fn faults() {
     assert_eq!(report.faults.iter().map(|f: &Fault| f.reason).collect::<Vec<_>>(), [18]);
     assert_eq!(model.fit_to_saw(body), Ok(false));
 }
+
+#[test]
+fn words() {
+    let (mut model, body) = stone();
+    let mut corner = model.vertex(7).unwrap();
+    corner.point[2] += 0.01;
+    model.set_vertex(7, corner).unwrap();
+    let report = model.check_body(body, Some(3)).unwrap();
+    let told: Vec<String> = report.faults.iter().map(|fault| model.describe(fault)).collect();
+    assert!(told.contains(&"vertex 7 lies off the surface of face 1 (reason 23)".to_string()));
+    assert!(told.contains(&"vertex 7 lies off the curve of edge 3 or 7 or 11 (reason 22)".to_string()));
+    for refusal in Refusal::ALL {
+        assert!(refusal.to_string().starts_with("refused: "));
+    }
+}
