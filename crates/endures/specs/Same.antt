@@ -1,6 +1,6 @@
 -- A model with the same records in use as a well-formed one is well formed: `same-formed`. Nobody reads the other slots, since every stored id names a record. Assumes nothing.
 use Prim.Native.Nat.{ℕ, _≤_, _<_}
-use mathlib.Core.Path.{_≡_, refl, sym, subst}
+use mathlib.Core.Path.{_≡_, refl, sym, ap, _∙_, subst}
 use mathlib.Core.Bool.{Bool, true, _||_}
 use mathlib.Core.List.{List, [], _∷_}
 use lib.Dec.{eqb, ltb}
@@ -15,11 +15,26 @@ use Rattle.lists.specs.Tests.{and-both}
 use Rattle.lists.specs.Lists.{all-append, all-one}
 use Rattle.frame.specs.Change.{SameTable, SameModel}
 
+-- ---- what is made of a list entry by entry is the same where each entry gives the same
+
+pub fold-same : {A R : Type 0} (of : (ℕ → A) → List ℕ → R) (step : A → R → R) (start : R) → ((f : ℕ → A) → of f [] ≡ start)
+    → ((f : ℕ → A) (y : ℕ) (l : List ℕ) → of f (y ∷ l) ≡ step (f y) (of f l))
+    → (f g : ℕ → A) (p : ℕ → Bool) (l : List ℕ) → ((y : ℕ) → p y ≡ true → f y ≡ g y) → all p l ≡ true → of f l ≡ of g l
+unfolding all
+fold-same of step start none more f g p [] h a = rw (none f, none g)
+fold-same of step start none more f g p (y ∷ l) h a =
+    let c = and-both (p y) (all p l) a in
+    rw (more f y l, more g y l, h y (c .0), fold-same of step start none more f g p l h (c .1))
+
 -- ---- tables
 
 module _ {A : Type 0} {t u : Table A} (s : SameTable t u) where
   in-use : (i : ℕ) → i < t .used → i < u .used
   in-use i h = rw (← s .used) h
+
+  -- what a record in use has
+  pub same-in : {C : Type 0} (f : A → C) (i : ℕ) → ltb i (u .used) ≡ true → f (t .slot i) ≡ f (u .slot i)
+  same-in f i h = ap f (s .slots i (rw (s .used) (ltb-true i (u .used) h)))
 
   -- what holds of each record in use
   each : (P : A → Type 0) → ((i : ℕ) → i < u .used → P (u .slot i)) → (i : ℕ) → i < t .used → P (t .slot i)
@@ -36,7 +51,46 @@ module _ {A : Type 0} {t u : Table A} (s : SameTable t u) where
     lists-same list names h =
         record { once = λ p i hp hi. rw (s .slots p hp, r .slots i hi) (h .once p i (in-use p hp) (subst (λ n. i < n) (r .used) hi)) }
 
+  -- the same as what is the same
+  table-trans : {v : Table A} → SameTable u v → SameTable t v
+  table-trans r = record { used = s .used ∙ r .used; slots = λ i h. s .slots i h ∙ r .slots i (in-use i h) }
+
 -- ---- models
+
+table-refl : {A : Type 0} (t : Table A) → SameTable t t
+table-refl t = record { used = refl; slots = λ i h. refl }
+
+pub same-refl : (m : Model) → SameModel m m
+same-refl m =
+    record {
+      precision = refl;
+      bodies = table-refl (m .bodies);
+      regions = table-refl (m .regions);
+      shells = table-refl (m .shells);
+      faces = table-refl (m .faces);
+      loops = table-refl (m .loops);
+      fins = table-refl (m .fins);
+      edges = table-refl (m .edges);
+      vertices = table-refl (m .vertices);
+      curves = table-refl (m .curves);
+      surfaces = table-refl (m .surfaces);
+    }
+
+pub same-trans : (m n o : Model) → SameModel m n → SameModel n o → SameModel m o
+same-trans m n o s r =
+    record {
+      precision = s .precision ∙ r .precision;
+      bodies = table-trans (s .bodies) (r .bodies);
+      regions = table-trans (s .regions) (r .regions);
+      shells = table-trans (s .shells) (r .shells);
+      faces = table-trans (s .faces) (r .faces);
+      loops = table-trans (s .loops) (r .loops);
+      fins = table-trans (s .fins) (r .fins);
+      edges = table-trans (s .edges) (r .edges);
+      vertices = table-trans (s .vertices) (r .vertices);
+      curves = table-trans (s .curves) (r .curves);
+      surfaces = table-trans (s .surfaces) (r .surfaces);
+    }
 
 module _ (x : Limits) (m n : Model) (s : SameModel m n) where
   tables-same : Readable x n → Readable x m
