@@ -177,6 +177,30 @@ fn around_plane(plain: &mut Plain, random: &mut Random) -> Option<usize> {
     Some(edge)
 }
 
+/// The ends of a straight edge moved to parameters that are the same number, neighbours or a few floats apart, either way round, near
+/// the line's origin or far from it: about the sign of tests 7 and 8, and under the precision about that of test 10.
+fn around_ends(plain: &mut Plain, random: &mut Random) -> Option<usize> {
+    let edge = random.below(plain.edges.len().max(1));
+    let record = plain.edges.get(edge)?;
+    let (start, end) = (record.start?, record.end?);
+    let Carrier::Line(origin, way) = *plain.curves.get(record.curve?)? else {
+        return None;
+    };
+    let from: f64 = random.pick(&[0.0, 1.0, -3.0, 1.0e6, 1.0995e12]);
+    let mut to = match random.below(3) {
+        0 => from + plain.precision * random.pick(&[0.5, 1.0, 2.0, 3.0]),
+        _ => from,
+    };
+    for _ in 0..random.below(4) {
+        to = to.next_up();
+    }
+    let (a, b) = if random.one_in(2) { (from, to) } else { (to, from) };
+    for (id, t) in [(start, a), (end, b)] {
+        plain.vertices.get_mut(id)?.point = std::array::from_fn(|i| origin[i] + way[i] * t);
+    }
+    Some(edge)
+}
+
 /// Up to 50 splits, one after the other, on both sides.
 fn splits(
     tally: &mut Tally,
@@ -186,9 +210,10 @@ fn splits(
     wrong: Option<How>,
 ) {
     let mut near = made.near.clone();
-    if random.one_in(3) {
+    if random.one_in(2) {
         let mut plain = made.plain.clone();
-        if let Some(edge) = around_plane(&mut plain, random)
+        let around = random.pick(&[around_plane, around_ends]);
+        if let Some(edge) = around(&mut plain, random)
             && let Ok(model) = original::build(&mut plain, names)
         {
             near = vec![edge];
@@ -303,6 +328,7 @@ fn reports(
                     continue;
                 }
             };
+            tally.met("report", &told.words);
             let faults = told.numbers.len().saturating_sub(2) / 4;
             let places = match random.below(3) {
                 0 => random.below(faults + 1),
