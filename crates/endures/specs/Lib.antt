@@ -4,4 +4,5 @@ pub mod Walked
 pub mod Reported
 pub mod Tested
 pub mod Changed
+pub mod Answered
 pub mod Statements
