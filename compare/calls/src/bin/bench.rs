@@ -69,12 +69,19 @@ fn larger(model: &Model, names: &Names, lent: &Lent) {
         let rust = time(|| drop(black_box(check_body(model, body, &options))));
         row(what, rust, time(|| drop(black_box(lent.check(0, geometry, 3, 16, 0)))));
     }
-    // The Rust copies a model's tables as far as they are used, ours has all of its memory copied: splits are timed without that.
-    let rust = on_a_copy(model, |model| drop(black_box(split_line_edge(model, names.edges[0], 0.5))));
-    let ours = on_a_copy(lent, |lent| {
-        black_box(lent.split_alone(0, 0.5));
-    });
-    row("split", rust, ours);
+    // Each of many edges once on a copy, since a split leaves another model; capacities as used have no slot for it.
+    if lent.room == LARGEST {
+        let edges = original::read(model, names).edges.len().min(100);
+        let rust = on_a_copy(model, |model| {
+            (0..edges).for_each(|e| drop(black_box(split_line_edge(model, names.edges[e], 0.5))));
+        });
+        let ours = on_a_copy(lent, |lent| {
+            for e in 0..edges {
+                black_box(lent.split_alone(e, 0.5));
+            }
+        });
+        row("split", rust / edges as u32, ours / edges as u32);
+    }
 }
 
 fn main() {
