@@ -57,25 +57,6 @@ module _ {A : Type 0} {t u : Table A} (s : SameTable t u) where
 
 -- ---- models
 
-table-refl : {A : Type 0} (t : Table A) → SameTable t t
-table-refl t = record { used = refl; slots = λ i h. refl }
-
-pub same-refl : (m : Model) → SameModel m m
-same-refl m =
-    record {
-      precision = refl;
-      bodies = table-refl (m .bodies);
-      regions = table-refl (m .regions);
-      shells = table-refl (m .shells);
-      faces = table-refl (m .faces);
-      loops = table-refl (m .loops);
-      fins = table-refl (m .fins);
-      edges = table-refl (m .edges);
-      vertices = table-refl (m .vertices);
-      curves = table-refl (m .curves);
-      surfaces = table-refl (m .surfaces);
-    }
-
 pub same-trans : (m n o : Model) → SameModel m n → SameModel n o → SameModel m o
 same-trans m n o s r =
     record {

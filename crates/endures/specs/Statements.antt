@@ -20,9 +20,9 @@ use Rattle.laws.specs.Terms.{OneMore, SameWalks, eulerNumber}
 use Rattle.laws.specs.After.{bodies-kept}
 use Rattle.laws.specs.Kept.{split-keeps}
 use Rattle.laws.specs.Statements.{stays-well-formed, empty-report-stays, accepted-split-adds-one, accepted-split-leaves-others, euler-number-stays, gives-back-any}
-use Rattle.outcome.specs.Statements.{Holds, split-model}
+use Rattle.outcome.specs.Statements.{Holds, same-model, split-model}
 use Rattle.endures.specs.Sequence.{callsWords, callsReals}
-use Rattle.endures.specs.Same.{same-refl, same-trans, same-formed}
+use Rattle.endures.specs.Same.{same-trans, same-formed}
 use Rattle.endures.specs.Walked.{walks-same, euler-same}
 use Rattle.endures.specs.Reported.{report-same}
 use Rattle.endures.specs.Changed.{after-same}
@@ -55,7 +55,7 @@ module _ (room w : List ℕ) (x : List Float) (l : List Cut) (s : Sound room w x
 
   -- the memory holds the model of `laws`' statements, record by record
   pub calls-model : Holds room (callsWords room w x l) (callsReals room w x l) (afterAll (limits room) (decode room w x) l)
-  calls-model = holds-after room w x (decode room w x) l (s .readable) (same-refl (decode room w x)) (s .formed)
+  calls-model = holds-after room w x (decode room w x) l (s .readable) (same-model (decode room w x)) (s .formed)
 
   after-formed : WellFormed (limits room) (afterAll (limits room) before l)
   after-formed = stays-well-formed (limits room) before l (s .formed)

@@ -34,7 +34,7 @@ pub record PlacesStay (room w w′ : List ℕ) (n : ℕ) : Type 0 where
 same-table : {A : Type 0} (t : Table A) → SameTable t t
 same-table t = record { used = refl; slots = λ i h. refl }
 
-same-model : (m : Model) → SameModel m m
+pub same-model : (m : Model) → SameModel m m
 same-model m =
     record {
       precision = refl;
