@@ -18,33 +18,33 @@ use Rattle.splits.specs.declared.Split.{Split}
 use Rattle.splits.specs.declared.Split.the-variants as Splits
 
 -- the least corner, then the greatest
-unfoldable pub boxValue : Aabb → List Float
-boxValue b = b .min .x ∷ b .min .y ∷ b .min .z ∷ b .max .x ∷ b .max .y ∷ b .max .z ∷ []
+unfoldable pub cornersValue : Aabb → List Float
+cornersValue b = b .min .x ∷ b .min .y ∷ b .min .z ∷ b .max .x ∷ b .max .y ∷ b .max .z ∷ []
 
-abbrev pub boxNumber : BoxFound → ℕ
-boxNumber (Boxes.Is b) = 0
-boxNumber (Boxes.Refused n) = n
+abbrev pub cornersNumber : BoxFound → ℕ
+cornersNumber (Boxes.Is b) = 0
+cornersNumber (Boxes.Refused n) = n
 
-abbrev pub boxSlots : BoxFound → List Float → List Float
-boxSlots (Boxes.Is b) s = boxValue b
-boxSlots (Boxes.Refused n) s = s
+abbrev pub cornersSlots : BoxFound → List Float → List Float
+cornersSlots (Boxes.Is b) s = cornersValue b
+cornersSlots (Boxes.Refused n) s = s
 
-abbrev pub volumeNumber : Volume → ℕ
-volumeNumber (Volumes.Is v) = 0
-volumeNumber (Volumes.Refused n) = n
+abbrev pub amountNumber : Volume → ℕ
+amountNumber (Volumes.Is v) = 0
+amountNumber (Volumes.Refused n) = n
 
-abbrev pub volumeSlots : Volume → List Float → List Float
-volumeSlots (Volumes.Is v) s = v ∷ []
-volumeSlots (Volumes.Refused n) s = s
+abbrev pub amountSlots : Volume → List Float → List Float
+amountSlots (Volumes.Is v) s = v ∷ []
+amountSlots (Volumes.Refused n) s = s
 
 -- the split edge, the new edge, the new vertex
-abbrev pub splitNumber : Split → ℕ
-splitNumber (Splits.Is m) = 0
-splitNumber (Splits.Refused n) = n
+abbrev pub madeNumber : Split → ℕ
+madeNumber (Splits.Is m) = 0
+madeNumber (Splits.Refused n) = n
 
-abbrev pub splitSlots : Split → List ℕ → List ℕ
-splitSlots (Splits.Is m) s = m .«original_edge» ∷ m .«new_edge» ∷ m .vertex ∷ []
-splitSlots (Splits.Refused n) s = s
+abbrev pub madeSlots : Split → List ℕ → List ℕ
+madeSlots (Splits.Is m) s = m .«original_edge» ∷ m .«new_edge» ∷ m .vertex ∷ []
+madeSlots (Splits.Refused n) s = s
 
 -- how many faults, how many kept, how many checks could not be made
 abbrev pub checkedNumber : Checked → ℕ

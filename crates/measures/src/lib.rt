@@ -17,17 +17,17 @@ ghost use Rattle.checker.specs.Calls.{asked, checkAnswer, checkWords, fitAnswer
 ghost use Rattle.boxes.specs.Answers.{boxAnswer};
 ghost use Rattle.volumes.specs.Answers.{volumeAnswer};
 ghost use Rattle.splits.specs.After.{splitAnswer, splitWords, splitReals};
-ghost use Rattle.measures.specs.Measured.{boxValue, boxNumber, boxSlots, volumeNumber, volumeSlots, splitNumber, splitSlots, checkedNumber, checkedSlots, sawableNumber, sawableSlots, wanted};
+ghost use Rattle.measures.specs.Measured.{cornersValue, cornersNumber, cornersSlots, amountNumber, amountSlots, madeNumber, madeSlots, checkedNumber, checkedSlots, sawableNumber, sawableSlots, wanted};
 
 fn box_value(b: Aabb) -> [f64; 6]
-    ensures { λ r. ⌜ r ≡ boxValue b ⌝ }
+    ensures { λ r. ⌜ r ≡ cornersValue b ⌝ }
 {
     [b.min.x, b.min.y, b.min.z, b.max.x, b.max.y, b.max.z]
 }
 
 fn put_box(answer: BoxFound, value: &mut [f64; 6]) -> u32
-    ensures answer { λ r. ⌜ r ≡ boxNumber answer ⌝ }
-    ensures slots { λ _. ⌜ now (value .exit) ≡ boxSlots answer (now (value .entry)) ⌝ }
+    ensures answer { λ r. ⌜ r ≡ cornersNumber answer ⌝ }
+    ensures slots { λ _. ⌜ now (value .exit) ≡ cornersSlots answer (now (value .entry)) ⌝ }
 {
     match answer {
         BoxFound::Is(b) => {
@@ -39,8 +39,8 @@ fn put_box(answer: BoxFound, value: &mut [f64; 6]) -> u32
 }
 
 fn put_volume(answer: Volume, value: &mut [f64; 1]) -> u32
-    ensures answer { λ r. ⌜ r ≡ volumeNumber answer ⌝ }
-    ensures slots { λ _. ⌜ now (value .exit) ≡ volumeSlots answer (now (value .entry)) ⌝ }
+    ensures answer { λ r. ⌜ r ≡ amountNumber answer ⌝ }
+    ensures slots { λ _. ⌜ now (value .exit) ≡ amountSlots answer (now (value .entry)) ⌝ }
 {
     match answer {
         Volume::Is(v) => {
@@ -52,8 +52,8 @@ fn put_volume(answer: Volume, value: &mut [f64; 1]) -> u32
 }
 
 fn put_split(answer: Split, value: &mut [u32; 3]) -> u32
-    ensures answer { λ r. ⌜ r ≡ splitNumber answer ⌝ }
-    ensures slots { λ _. ⌜ now (value .exit) ≡ splitSlots answer (now (value .entry)) ⌝ }
+    ensures answer { λ r. ⌜ r ≡ madeNumber answer ⌝ }
+    ensures slots { λ _. ⌜ now (value .exit) ≡ madeSlots answer (now (value .entry)) ⌝ }
 {
     match answer {
         Split::Is(made) => {
@@ -110,8 +110,8 @@ pub fn box_of(
     vertices: &mut [u8],
     value: &mut [f64; 6],
 ) -> u32
-    ensures answer { λ r. ⌜ r ≡ boxNumber (boxAnswer (now (room .entry)) (now (words .entry)) (now (reals .entry)) body (now (faces .entry)) (now (edges .entry)) (now (vertices .entry))) ⌝ }
-    ensures slots { λ _. ⌜ now (value .exit) ≡ boxSlots (boxAnswer (now (room .entry)) (now (words .entry)) (now (reals .entry)) body (now (faces .entry)) (now (edges .entry)) (now (vertices .entry))) (now (value .entry)) ⌝ }
+    ensures answer { λ r. ⌜ r ≡ cornersNumber (boxAnswer (now (room .entry)) (now (words .entry)) (now (reals .entry)) body (now (faces .entry)) (now (edges .entry)) (now (vertices .entry))) ⌝ }
+    ensures slots { λ _. ⌜ now (value .exit) ≡ cornersSlots (boxAnswer (now (room .entry)) (now (words .entry)) (now (reals .entry)) body (now (faces .entry)) (now (edges .entry)) (now (vertices .entry))) (now (value .entry)) ⌝ }
     ensures faces { λ _. ⌜ now (faces .exit) ≡ replicate (length (now (faces .entry))) 0 ⌝ }
     ensures edges { λ _. ⌜ now (edges .exit) ≡ replicate (length (now (edges .entry))) 0 ⌝ }
     ensures vertices { λ _. ⌜ now (vertices .exit) ≡ replicate (length (now (vertices .entry))) 0 ⌝ }
@@ -128,8 +128,8 @@ pub fn volume_of(
     faces: &mut [u8],
     value: &mut [f64; 1],
 ) -> u32
-    ensures answer { λ r. ⌜ r ≡ volumeNumber (volumeAnswer (now (room .entry)) (now (words .entry)) (now (reals .entry)) body (now (faces .entry))) ⌝ }
-    ensures slots { λ _. ⌜ now (value .exit) ≡ volumeSlots (volumeAnswer (now (room .entry)) (now (words .entry)) (now (reals .entry)) body (now (faces .entry))) (now (value .entry)) ⌝ }
+    ensures answer { λ r. ⌜ r ≡ amountNumber (volumeAnswer (now (room .entry)) (now (words .entry)) (now (reals .entry)) body (now (faces .entry))) ⌝ }
+    ensures slots { λ _. ⌜ now (value .exit) ≡ amountSlots (volumeAnswer (now (room .entry)) (now (words .entry)) (now (reals .entry)) body (now (faces .entry))) (now (value .entry)) ⌝ }
     ensures faces { λ _. ⌜ now (faces .exit) ≡ replicate (length (now (faces .entry))) 0 ⌝ }
 {
     let answer = body_volume(room, words, reals, body, faces);
@@ -145,8 +145,8 @@ pub fn split_of(
     fraction: f64,
     value: &mut [u32; 3],
 ) -> u32
-    ensures answer { λ r. ⌜ r ≡ splitNumber (splitAnswer (now (room .entry)) (now (words .entry)) (now (reals .entry)) edge fraction) ⌝ }
-    ensures slots { λ _. ⌜ now (value .exit) ≡ splitSlots (splitAnswer (now (room .entry)) (now (words .entry)) (now (reals .entry)) edge fraction) (now (value .entry)) ⌝ }
+    ensures answer { λ r. ⌜ r ≡ madeNumber (splitAnswer (now (room .entry)) (now (words .entry)) (now (reals .entry)) edge fraction) ⌝ }
+    ensures slots { λ _. ⌜ now (value .exit) ≡ madeSlots (splitAnswer (now (room .entry)) (now (words .entry)) (now (reals .entry)) edge fraction) (now (value .entry)) ⌝ }
     ensures tables { λ _. ⌜ now (words .exit) ≡ splitWords (now (room .entry)) (now (words .entry)) (now (reals .entry)) edge fraction ⌝ }
     ensures floats { λ _. ⌜ now (reals .exit) ≡ splitReals (now (room .entry)) (now (words .entry)) (now (reals .entry)) edge fraction ⌝ }
 {

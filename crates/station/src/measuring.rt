@@ -5,7 +5,7 @@ ghost use Rattle.checker.specs.Calls.{asked, checkAnswer, checkWords, fitAnswer
 ghost use Rattle.boxes.specs.Answers.{boxAnswer};
 ghost use Rattle.volumes.specs.Answers.{volumeAnswer};
 ghost use Rattle.splits.specs.After.{splitAnswer, splitWords, splitReals};
-ghost use Rattle.measures.specs.Measured.{boxNumber, boxSlots, volumeNumber, volumeSlots, splitNumber, splitSlots, checkedNumber, checkedSlots, sawableNumber, sawableSlots, wanted};
+ghost use Rattle.measures.specs.Measured.{cornersNumber, cornersSlots, amountNumber, amountSlots, madeNumber, madeSlots, checkedNumber, checkedSlots, sawableNumber, sawableSlots, wanted};
 
 // The two corners of a body's box; `faces`, `edges` and `vertices` are seen marks.
 #[no_mangle]
@@ -19,8 +19,8 @@ pub extern "C" fn brunskerl_body_bounding_box(
     vertices: &mut [u8],
     value: &mut [f64; 6],
 ) -> u32
-    ensures answer { λ r. ⌜ r ≡ boxNumber (boxAnswer (now (room .entry)) (now (words .entry)) (now (reals .entry)) body (now (faces .entry)) (now (edges .entry)) (now (vertices .entry))) ⌝ }
-    ensures slots { λ _. ⌜ now (value .exit) ≡ boxSlots (boxAnswer (now (room .entry)) (now (words .entry)) (now (reals .entry)) body (now (faces .entry)) (now (edges .entry)) (now (vertices .entry))) (now (value .entry)) ⌝ }
+    ensures answer { λ r. ⌜ r ≡ cornersNumber (boxAnswer (now (room .entry)) (now (words .entry)) (now (reals .entry)) body (now (faces .entry)) (now (edges .entry)) (now (vertices .entry))) ⌝ }
+    ensures slots { λ _. ⌜ now (value .exit) ≡ cornersSlots (boxAnswer (now (room .entry)) (now (words .entry)) (now (reals .entry)) body (now (faces .entry)) (now (edges .entry)) (now (vertices .entry))) (now (value .entry)) ⌝ }
     ensures faces { λ _. ⌜ now (faces .exit) ≡ replicate (length (now (faces .entry))) 0 ⌝ }
     ensures edges { λ _. ⌜ now (edges .exit) ≡ replicate (length (now (edges .entry))) 0 ⌝ }
     ensures vertices { λ _. ⌜ now (vertices .exit) ≡ replicate (length (now (vertices .entry))) 0 ⌝ }
@@ -38,8 +38,8 @@ pub extern "C" fn brunskerl_body_volume(
     faces: &mut [u8],
     value: &mut [f64; 1],
 ) -> u32
-    ensures answer { λ r. ⌜ r ≡ volumeNumber (volumeAnswer (now (room .entry)) (now (words .entry)) (now (reals .entry)) body (now (faces .entry))) ⌝ }
-    ensures slots { λ _. ⌜ now (value .exit) ≡ volumeSlots (volumeAnswer (now (room .entry)) (now (words .entry)) (now (reals .entry)) body (now (faces .entry))) (now (value .entry)) ⌝ }
+    ensures answer { λ r. ⌜ r ≡ amountNumber (volumeAnswer (now (room .entry)) (now (words .entry)) (now (reals .entry)) body (now (faces .entry))) ⌝ }
+    ensures slots { λ _. ⌜ now (value .exit) ≡ amountSlots (volumeAnswer (now (room .entry)) (now (words .entry)) (now (reals .entry)) body (now (faces .entry))) (now (value .entry)) ⌝ }
     ensures faces { λ _. ⌜ now (faces .exit) ≡ replicate (length (now (faces .entry))) 0 ⌝ }
 {
     measures::volume_of(room, words, reals, body, faces, value)
@@ -55,8 +55,8 @@ pub extern "C" fn brunskerl_split_line_edge(
     fraction: f64,
     value: &mut [u32; 3],
 ) -> u32
-    ensures answer { λ r. ⌜ r ≡ splitNumber (splitAnswer (now (room .entry)) (now (words .entry)) (now (reals .entry)) edge fraction) ⌝ }
-    ensures slots { λ _. ⌜ now (value .exit) ≡ splitSlots (splitAnswer (now (room .entry)) (now (words .entry)) (now (reals .entry)) edge fraction) (now (value .entry)) ⌝ }
+    ensures answer { λ r. ⌜ r ≡ madeNumber (splitAnswer (now (room .entry)) (now (words .entry)) (now (reals .entry)) edge fraction) ⌝ }
+    ensures slots { λ _. ⌜ now (value .exit) ≡ madeSlots (splitAnswer (now (room .entry)) (now (words .entry)) (now (reals .entry)) edge fraction) (now (value .entry)) ⌝ }
     ensures tables { λ _. ⌜ now (words .exit) ≡ splitWords (now (room .entry)) (now (words .entry)) (now (reals .entry)) edge fraction ⌝ }
     ensures floats { λ _. ⌜ now (reals .exit) ≡ splitReals (now (room .entry)) (now (words .entry)) (now (reals .entry)) edge fraction ⌝ }
 {

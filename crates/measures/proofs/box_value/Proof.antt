@@ -1,11 +1,11 @@
 -- `measures::box_value` meets its contract. Assumes nothing.
 use mathlib.Core.Path.{refl}
-use Rattle.measures.specs.Measured.{boxValue}
+use Rattle.measures.specs.Measured.{cornersValue}
 use Rattle.measures.proofs.box_value.Statement.{statement}
 use Rattle.measures.proofs.box_value.Tie as tie
 
 returns : tie.Need-returns
-unfolding boxValue
+unfolding cornersValue
 returns c = refl
 
 pub box-value-spec : {M : Type 1} → statement M
