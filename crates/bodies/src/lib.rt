@@ -1,8 +1,8 @@
 // What is found of a body (`body` of gensolid-check's lib.rs).
 use entity::records::BodyKind;
 use entity::slots::body_at;
+use listing::list;
 use manifold::manifold_edges;
-use model::entries::list;
 use reasons::Tally;
 use shells::all_regions;
 use shells::region_layout;

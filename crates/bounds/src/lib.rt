@@ -7,7 +7,7 @@ pub mod segment;
 use crate::ends::ends_refusal;
 use crate::ends::segment_at;
 use crate::segment::span_refusal;
-use model::readable::readable;
+use legible::readable;
 ghost use mathlib.Core.Path.{_≡_};
 ghost use Rattle.meaning.specs.Split.{boundsRefusal};
 ghost use Rattle.model.specs.Decode.{decode};

@@ -1,8 +1,8 @@
 // `check_body` of gensolid-check's lib.rs over lent memory, its faults in plain numbers, four to a fault; and fit to saw (01, "Faults").
 // specs/Calls.antt says which number, which report and which words.
 use bodies::body_findings;
+use legible::readable;
 use marks::clear;
-use model::readable::readable;
 ghost use mathlib.Core.Path.{_≡_};
 ghost use mathlib.Core.Bool.{true, cond};
 ghost use Prim.Native.Nat.{_≤_, _<_, _/_};

@@ -1,6 +1,6 @@
 // Test 13: the slots of the tables and lists concerned, the new fins in one loop counted together.
 use crate::shells::shells_ok;
-use model::entries::list;
+use listing::list;
 use uses::fins::one_if;
 use uses::fins::owner_of;
 ghost use mathlib.Core.Path.{_≡_};

@@ -1,5 +1,5 @@
 // The wire edges of the shells: test 12, and their part of test 13.
-use model::entries::list;
+use listing::list;
 use uses::fins::one_if;
 ghost use mathlib.Core.Path.{_≡_};
 ghost use Prim.Native.Nat.{_<_};

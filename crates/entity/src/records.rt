@@ -1,4 +1,4 @@
-// The records, each made of its own words and floats. A list stands as its number of entries; `model::entries` has the
+// The records, each made of its own words and floats. A list stands as its number of entries; `listing` has the
 // entries.
 use geometry::curve::Line;
 use geometry::surface::Plane;

@@ -1,8 +1,8 @@
 // What is found of a face (`face` of gensolid-check's lib.rs).
 use entity::records::Ref;
 use entity::slots::face_at;
+use listing::list;
 use loops::loop_;
-use model::entries::list;
 use reasons::Tally;
 use reasons::note;
 use reasons::note_if;

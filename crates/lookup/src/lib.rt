@@ -16,7 +16,7 @@ use entity::slots::loop_at;
 use entity::slots::region_at;
 use entity::slots::shell_at;
 use entity::slots::vertex_at;
-use model::readable::readable;
+use legible::readable;
 use store::Carrier;
 ghost use mathlib.Core.Path.{_≡_};
 ghost use Prim.Native.Nat.{_<_};

@@ -4,7 +4,7 @@ use entity::slots::face_at;
 use entity::slots::loop_at;
 use fins::fin;
 use fins::fin_geometry;
-use model::entries::list;
+use listing::list;
 use opens::open_loop;
 use reasons::Tally;
 use reasons::note;

@@ -2,8 +2,8 @@
 // table has room for, so it is not put into a list: each source's new edges are tested before the next source is read.
 use entity::records::Sense;
 use entity::slots::fin_at;
+use listing::list;
 use marks::clear;
-use model::entries::list;
 use parts::part;
 use paths::edge_path;
 use reasons::Tally;

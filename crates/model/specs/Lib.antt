@@ -5,4 +5,4 @@ pub mod Entries
 pub mod Fit
 pub mod Laws
 pub mod Rows
-pub mod Stone
+pub mod Laid

@@ -1,10 +1,10 @@
 // Where a walk's ids stand: a source is a record and which of its lists, in one word, 8 times the id and the list's number, and its
 // part the ids that it lists. The faces of a shell, its wire edges and acorn vertices are lists; a loop's list of fins stands for
 // the edges that they name, and an edge's for its ends.
+use listing::list;
 use marks::all_below;
 use marks::put;
 use marks::put_all;
-use model::entries::list;
 use model::layout::words_of;
 ghost use mathlib.Core.Path.{_≡_};
 ghost use mathlib.Core.Bool.{true};

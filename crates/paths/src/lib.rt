@@ -1,8 +1,8 @@
 // The paths of a body's walks, and whether what they follow is there (`body_faces`, `body_edges`, `body_vertices` of model.rs). The
 // faces walk goes by the body's shells; the edges walk by the loops of those faces, then by the shells; the vertices walk by those
 // edges, then by the shells. What a walk follows exists, so it has room in a list as long as its largest table.
+use listing::list;
 use marks::clear;
-use model::entries::list;
 use parts::add_sources;
 use parts::all_followed;
 use parts::gather;

@@ -4,7 +4,7 @@ pub mod carriers;
 pub mod walked;
 
 use crate::walked::path_refusal;
-use model::readable::readable;
+use legible::readable;
 use paths::body_followed;
 use paths::edge_path;
 use paths::face_path;

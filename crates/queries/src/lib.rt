@@ -48,7 +48,7 @@ pub fn list_entry(
     ensures answer { λ r. ⌜ r ≡ entryNumber (entryAnswer (now (room .entry)) (now (words .entry)) (now (reals .entry)) j i place) ⌝ }
     ensures slots { λ _. ⌜ now (value .exit) ≡ entrySlots (entryAnswer (now (room .entry)) (now (words .entry)) (now (reals .entry)) j i place) (now (value .entry)) ⌝ }
 {
-    match model::entries::list_entry(room, words, reals, j, i, place) {
+    match listing::list_entry(room, words, reals, j, i, place) {
         Entry::Is(id) => {
             *value = [id];
             0

@@ -1,7 +1,7 @@
 // The words of a split, written behind all its tests: the lists, the records, their counts. `specs/Written.antt` says what they
 // become.
 use edits::write::write_words;
-use model::entries::list;
+use listing::list;
 use pieces::fins::fin_words;
 use pieces::fins::put_fins;
 use pieces::records::put_counts;

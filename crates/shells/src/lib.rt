@@ -2,7 +2,7 @@
 use entity::slots::region_at;
 use entity::slots::shell_at;
 use faces::face;
-use model::entries::list;
+use listing::list;
 use reasons::Tally;
 use reasons::note;
 use reasons::note_if;

@@ -3,7 +3,7 @@
 use bounds::refusals::then;
 use bounds::refusals::unless;
 use figures::fan::polygon_volume;
-use model::entries::list;
+use listing::list;
 use model::layout::words_of;
 use starts::start_points;
 use starts::starts_refusal;

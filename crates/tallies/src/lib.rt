@@ -1,6 +1,6 @@
 // The sides of a body's solid regions, met one after the other as they are listed (the loops of `body_volume`, inquire.rs).
 use bounds::refusals::then;
-use model::entries::list;
+use listing::list;
 use model::layout::words_of;
 use sides::side_refusal;
 use sides::side_volume;

@@ -3,7 +3,7 @@ use entity::records::Ref;
 use entity::records::Sense;
 use entity::slots::edge_at;
 use entity::slots::fin_at;
-use model::readable::readable;
+use legible::readable;
 ghost use mathlib.Core.Path.{_≡_};
 ghost use mathlib.Core.List.{List};
 ghost use lib.Ieee.{Float};

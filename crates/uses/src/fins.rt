@@ -3,7 +3,7 @@ use crate::planes::Cut;
 use crate::planes::face_refusal;
 use bounds::refusals::then;
 use bounds::refusals::unless;
-use model::entries::list;
+use listing::list;
 use model::layout::words_of;
 ghost use mathlib.Core.Path.{_≡_};
 ghost use Prim.Native.Nat.{_<_};

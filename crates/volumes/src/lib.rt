@@ -1,8 +1,8 @@
 // `body_volume` of inquire.rs. specs/Answers.antt says what it answers.
 use bounds::refusals::then;
 use bounds::refusals::unless;
+use listing::list;
 use marks::clear;
-use model::entries::list;
 use model::layout::words_of;
 use polyhedral::polyhedral_refusal;
 use tallies::Tally;

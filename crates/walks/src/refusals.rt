@@ -1,5 +1,5 @@
 // Which refusal a walk gives before its list is looked at: 9, 8 for short marks, 2.
-use model::readable::readable;
+use legible::readable;
 use paths::body_followed;
 use paths::edges_there;
 use paths::faces_there;

@@ -1,0 +1,103 @@
+// The eight lists of the records, as views of the lent words.
+use legible::readable;
+use model::entries::Entry;
+use model::layout::words_of;
+ghost use mathlib.Core.Path.{_≡_};
+ghost use Prim.Native.Nat.{_<_, _≤_};
+ghost use Rattle.model.specs.Layout.{word};
+ghost use Rattle.model.specs.Decode.{listAt};
+ghost use Rattle.model.specs.Entries.{listTables, listPlaces, listLimits, listOf, entryRefusal, entryAnswer};
+ghost use Rattle.model.specs.Fit.{Held, Lists};
+
+const TABLES: [usize; 8] = [0, 1, 2, 2, 2, 3, 4, 6];
+
+const PLACES: [usize; 8] = [1, 2, 1, 514, 771, 7, 1, 7];
+
+const LIMITS: [usize; 8] = [16, 16, 512, 256, 64, 16, 1024, 8];
+
+// The table whose records have the list, where in the record it stands, and how long it may be.
+pub fn list_table(j: usize) -> usize
+    requires { ⌜ j < 8 ⌝ }
+    ensures { λ r. ⌜ r ≡ word listTables j ⌝ }
+{
+    TABLES[j]
+}
+
+pub fn list_place(j: usize) -> usize
+    requires { ⌜ j < 8 ⌝ }
+    ensures { λ r. ⌜ r ≡ word listPlaces j ⌝ }
+{
+    PLACES[j]
+}
+
+pub fn list_limit(j: usize) -> usize
+    requires { ⌜ j < 8 ⌝ }
+    ensures { λ r. ⌜ r ≡ word listLimits j ⌝ }
+{
+    LIMITS[j]
+}
+
+// The list at a place of a record: its length, then its entries.
+fn list_at(w: &[u32], at: usize) -> &[u32]
+    requires { ⌜ Held (now w) at ⌝ }
+    ensures { λ r. ⌜ now r ≡ listAt (now (w .entry)) at ⌝ }
+{
+    let n = w[at] as usize;
+    let from = at + 1;
+    let end = from + n;
+    &w[from..end]
+}
+
+// List j of record i.
+pub fn list<'a>(room: &[usize; 10], words: &'a [u32], j: usize, i: usize) -> &'a [u32]
+    requires { ⌜ Lists (now room) (now words) ⌝ }
+    requires { ⌜ (j < 8) × (i < word (now words) (word listTables j)) ⌝ }
+    ensures { λ r. ⌜ now r ≡ listOf (now (room .entry)) (now (words .entry)) j i ⌝ }
+{
+    list_at(words_of(room, words, TABLES[j], i), PLACES[j])
+}
+
+// Why there is no entry at a place of list j of record i, else 0: 9; 1 for a list that there is none of; 2 for a missing record;
+// 1 for a place that is not there.
+pub fn entry_refusal(
+    room: &[usize; 10],
+    words: &[u32],
+    reals: &[f64],
+    j: usize,
+    i: usize,
+    place: usize,
+) -> u32
+    ensures { λ r. ⌜ r ≡ entryRefusal (now (room .entry)) (now (words .entry)) (now (reals .entry)) j i place ⌝ }
+{
+    if !readable(room, words, reals) {
+        return 9;
+    }
+    if 8 <= j {
+        return 1;
+    }
+    if words[TABLES[j]] as usize <= i {
+        return 2;
+    }
+    if list(room, words, j, i).len() <= place {
+        return 1;
+    }
+    0
+}
+
+// The entry at a place of list j of record i.
+pub fn list_entry(
+    room: &[usize; 10],
+    words: &[u32],
+    reals: &[f64],
+    j: usize,
+    i: usize,
+    place: usize,
+) -> Entry
+    ensures { λ r. ⌜ r ≡ entryAnswer (now (room .entry)) (now (words .entry)) (now (reals .entry)) j i place ⌝ }
+{
+    let n = entry_refusal(room, words, reals, j, i, place);
+    if n != 0 {
+        return Entry::Refused(n);
+    }
+    Entry::Is(list(room, words, j, i)[place])
+}

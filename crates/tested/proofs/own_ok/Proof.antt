@@ -1,0 +1,13 @@
+-- `tested::own_ok` meets its contract. Assumes nothing.
+use borrow.Author.Needs.{needs}
+use Rattle.tested.proofs.own_ok.Statement.{statement}
+use Rattle.tested.proofs.own_ok.Tie as tie
+
+tolerance-ok-requires : tie.Need-tolerance-ok-requires
+tolerance-ok-requires c κs = search needs
+
+returns : tie.Need-returns
+returns c = cc
+
+pub own-ok-spec : {M : Type 1} → statement M
+own-ok-spec = tie.close (tie.spec tolerance-ok-requires returns)

@@ -1,0 +1,75 @@
+-- `tested::record_ok` meets its contract, table by table. Assumes nothing.
+use mathlib.Core.Path.{_≡_, ap, _∙_}
+use native.Mathlib.Omega.{arith}
+use Rattle.model.specs.Layout.{wordStrides, word}
+use Rattle.model.specs.Readable.{recordOk}
+use Rattle.model.specs.Laws.{upper-words}
+use borrow.Author.Needs.{needs}
+use Rattle.tested.proofs.record_ok.Statement.{statement}
+use Rattle.tested.proofs.record_ok.Tie as tie
+
+upper-ok-requires : tie.Need-upper-ok-requires
+upper-ok-requires c κs = search needs
+
+returns : tie.Need-returns
+returns c =
+    let s = c .before .before .before .before in
+    c .upper-ok .ensures ∙ upper-words (s .args .k) (s .args .w .now) (s .args .x .now) (c .before .if1 .taken)
+
+fin-ok-requires : tie.Need-fin-ok-requires
+fin-ok-requires c κs = search needs
+
+edge-ok-requires : tie.Need-edge-ok-requires
+edge-ok-requires c κs = search needs
+
+vertex-ok-requires : tie.Need-vertex-ok-requires
+vertex-ok-requires c κs = search needs
+
+carrier-ok-requires : tie.Need-carrier-ok-requires
+carrier-ok-requires c κs = search needs
+
+carrier-ok-requires-2 : tie.Need-carrier-ok-requires-2
+carrier-ok-requires-2 c κs =
+    let s = c .before .before .before .before in
+    let e : s .args .k ≡ 9 = omega (arith, s .pre .table) in
+    s .pre .words ∙ ap (word wordStrides) e
+
+returns-2 : tie.Need-returns-2
+unfolding recordOk
+returns-2 c = rw (c .before .match .keys1) (c .fin-ok .ensures)
+
+returns-3 : tie.Need-returns-3
+unfolding recordOk
+returns-3 c = rw (c .before .match .keys2) (c .edge-ok .ensures)
+
+returns-4 : tie.Need-returns-4
+unfolding recordOk
+returns-4 c = rw (c .before .match .keys3) (c .vertex-ok .ensures)
+
+returns-5 : tie.Need-returns-5
+unfolding recordOk
+returns-5 c = rw (c .before .match .keys4) (c .carrier-ok .ensures)
+
+returns-6 : tie.Need-returns-6
+unfolding recordOk
+returns-6 c =
+    let s = c .before .before .before .before .before in
+    let e : s .args .k ≡ 9 = omega (arith, s .pre .table) in
+    rw e (c .carrier-ok2 .ensures)
+
+pub record-ok-spec : {M : Type 1} → statement M
+record-ok-spec =
+    tie.close
+    (tie.spec
+    upper-ok-requires
+    returns
+    fin-ok-requires
+    edge-ok-requires
+    vertex-ok-requires
+    carrier-ok-requires
+    carrier-ok-requires-2
+    returns-2
+    returns-3
+    returns-4
+    returns-5
+    returns-6)

@@ -1,0 +1,123 @@
+// Whether a record is one that refusal 9 lets through: it is tested by its own words and floats. `specs/Readable.antt` of `model` has the tests.
+use vectors::vector::is_finite;
+ghost use mathlib.Core.Path.{_≡_};
+ghost use Prim.Native.Nat.{_<_};
+ghost use mathlib.Core.List.{[]};
+ghost use lib.ListN.{length};
+ghost use Rattle.meaning.specs.Edits.{toleranceOk, precisionOk};
+ghost use Rattle.geometry.specs.declared.tolerance.Tolerance.the-variants.{Own};
+ghost use Rattle.model.specs.Layout.{wordStrides, word};
+ghost use Rattle.model.specs.Readable.{bodyOk, regionOk, shellOk, faceOk, loopOk, finOk, ownOk, edgeOk, vertexOk, carrierOk, recordOk};
+ghost use Rattle.model.specs.Fit.{Whole};
+
+pub fn tolerance_ok(t: f64) -> bool
+    ensures { λ r. ⌜ r ≡ toleranceOk (Own t) ⌝ }
+{
+    is_finite(t) & (0.0 <= t)
+}
+
+pub fn precision_ok(p: f64) -> bool
+    ensures { λ r. ⌜ r ≡ precisionOk p ⌝ }
+{
+    is_finite(p) & (0.0 < p)
+}
+
+fn own_ok(tag: u32, t: f64) -> bool
+    ensures { λ r. ⌜ r ≡ ownOk tag t ⌝ }
+{
+    (tag == 0) | tolerance_ok(t)
+}
+
+fn body_ok(w: &[u32]) -> bool
+    requires { ⌜ length (now w) ≡ 18 ⌝ }
+    ensures { λ r. ⌜ r ≡ bodyOk (now (w .entry)) ⌝ }
+{
+    (w[0] <= 4) & (w[1] <= 16)
+}
+
+fn region_ok(w: &[u32]) -> bool
+    requires { ⌜ length (now w) ≡ 19 ⌝ }
+    ensures { λ r. ⌜ r ≡ regionOk (now (w .entry)) ⌝ }
+{
+    (w[1] <= 1) & (w[2] <= 16)
+}
+
+fn shell_ok(w: &[u32]) -> bool
+    requires { ⌜ length (now w) ≡ 836 ⌝ }
+    ensures { λ r. ⌜ r ≡ shellOk (now (w .entry)) ⌝ }
+{
+    (w[1] <= 512) & (w[514] <= 256) & (w[771] <= 64)
+}
+
+fn face_ok(w: &[u32]) -> bool
+    requires { ⌜ length (now w) ≡ 24 ⌝ }
+    ensures { λ r. ⌜ r ≡ faceOk (now (w .entry)) ⌝ }
+{
+    (w[0] <= 1) & (w[2] <= 1) & (w[4] <= 1) & (w[6] <= 1) & (w[7] <= 16)
+}
+
+fn loop_ok(w: &[u32]) -> bool
+    requires { ⌜ length (now w) ≡ 1026 ⌝ }
+    ensures { λ r. ⌜ r ≡ loopOk (now (w .entry)) ⌝ }
+{
+    w[1] <= 1024
+}
+
+fn fin_ok(w: &[u32]) -> bool
+    requires { ⌜ length (now w) ≡ 4 ⌝ }
+    ensures { λ r. ⌜ r ≡ finOk (now (w .entry)) ⌝ }
+{
+    (w[2] <= 1) & (w[3] <= 1)
+}
+
+fn edge_ok(w: &[u32], x: &[f64]) -> bool
+    requires { ⌜ (length (now w) ≡ 16) × (length (now x) ≡ 1) ⌝ }
+    ensures { λ r. ⌜ r ≡ edgeOk (now (w .entry)) (now (x .entry)) ⌝ }
+{
+    (w[0] <= 1) & (w[2] <= 1) & (w[4] <= 1) & (w[6] <= 1) & (w[7] <= 8) & own_ok(w[6], x[0])
+}
+
+fn vertex_ok(w: &[u32], x: &[f64]) -> bool
+    requires { ⌜ (length (now w) ≡ 1) × (length (now x) ≡ 4) ⌝ }
+    ensures { λ r. ⌜ r ≡ vertexOk (now (w .entry)) (now (x .entry)) ⌝ }
+{
+    (w[0] <= 1) & own_ok(w[0], x[3])
+}
+
+fn carrier_ok(w: &[u32]) -> bool
+    requires { ⌜ length (now w) ≡ 1 ⌝ }
+    ensures { λ r. ⌜ r ≡ carrierOk (now (w .entry)) ⌝ }
+{
+    w[0] <= 2
+}
+
+// One record of the first five tables, by its table.
+fn upper_ok(k: usize, w: &[u32]) -> bool
+    requires { ⌜ (k < 5) × (length (now w) ≡ word wordStrides k) ⌝ }
+    ensures { λ r. ⌜ r ≡ recordOk k (now (w .entry)) [] ⌝ }
+{
+    match k {
+        0 => body_ok(w),
+        1 => region_ok(w),
+        2 => shell_ok(w),
+        3 => face_ok(w),
+        _ => loop_ok(w),
+    }
+}
+
+// One record, by its table.
+pub fn record_ok(k: usize, w: &[u32], x: &[f64]) -> bool
+    requires { ⌜ Whole k (now w) (now x) ⌝ }
+    ensures { λ r. ⌜ r ≡ recordOk k (now (w .entry)) (now (x .entry)) ⌝ }
+{
+    if k < 5 {
+        return upper_ok(k, w);
+    }
+    match k {
+        5 => fin_ok(w),
+        6 => edge_ok(w, x),
+        7 => vertex_ok(w, x),
+        8 => carrier_ok(w),
+        _ => carrier_ok(w),
+    }
+}
