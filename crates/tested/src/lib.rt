@@ -1,7 +1,9 @@
 // Whether a record is one that refusal 9 lets through: it is tested by its own words and floats. `specs/Readable.antt` of `model` has the tests.
 use vectors::vector::is_finite;
 ghost use mathlib.Core.Path.{_≡_};
-ghost use Prim.Native.Nat.{_<_};
+ghost use mathlib.Core.Bool.{_&&_};
+ghost use Prim.Native.Nat.{_<_, _≤_};
+ghost use lib.Dec.{leb};
 ghost use mathlib.Core.List.{[]};
 ghost use lib.ListN.{length};
 ghost use Rattle.meaning.specs.Edits.{toleranceOk, precisionOk};
@@ -49,11 +51,19 @@ fn shell_ok(w: &[u32]) -> bool
     (w[1] <= 512) & (w[514] <= 256) & (w[771] <= 64)
 }
 
+// The four tags that a face has, and an edge: three optional ids, then a sense or an optional tolerance.
+fn marked(w: &[u32]) -> bool
+    requires { ⌜ 8 ≤ length (now w) ⌝ }
+    ensures { λ r. ⌜ r ≡ (leb (word (now (w .entry)) 0) 1 && leb (word (now (w .entry)) 2) 1 && leb (word (now (w .entry)) 4) 1 && leb (word (now (w .entry)) 6) 1) ⌝ }
+{
+    (w[0] <= 1) & (w[2] <= 1) & (w[4] <= 1) & (w[6] <= 1)
+}
+
 fn face_ok(w: &[u32]) -> bool
     requires { ⌜ length (now w) ≡ 24 ⌝ }
     ensures { λ r. ⌜ r ≡ faceOk (now (w .entry)) ⌝ }
 {
-    (w[0] <= 1) & (w[2] <= 1) & (w[4] <= 1) & (w[6] <= 1) & (w[7] <= 16)
+    marked(w) & (w[7] <= 16)
 }
 
 fn loop_ok(w: &[u32]) -> bool
@@ -74,7 +84,7 @@ fn edge_ok(w: &[u32], x: &[f64]) -> bool
     requires { ⌜ (length (now w) ≡ 16) × (length (now x) ≡ 1) ⌝ }
     ensures { λ r. ⌜ r ≡ edgeOk (now (w .entry)) (now (x .entry)) ⌝ }
 {
-    (w[0] <= 1) & (w[2] <= 1) & (w[4] <= 1) & (w[6] <= 1) & (w[7] <= 8) & own_ok(w[6], x[0])
+    marked(w) & (w[7] <= 8) & own_ok(w[6], x[0])
 }
 
 fn vertex_ok(w: &[u32], x: &[f64]) -> bool

@@ -38,7 +38,7 @@ unfolding readable
 returns-2 c =
     let s = c .before .before .before .before .before .before .before in
     let a : sizedOk (s .args .room .now) (s .args .words .now) (s .args .reals .now) ≡ true = sym (c .before .before .before .before .sized .ensures) ∙ not-false (c .before .before .before .before .sized .result) (c .before .before .before .if1 .left) in
-    rw a (cc)
+    rw (a, c .before .precision-ok .ensures, c .tables-ok .ensures)
 
 pub readable-spec : {M : Type 1} → statement M
 readable-spec =

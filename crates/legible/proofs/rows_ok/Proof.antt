@@ -59,7 +59,7 @@ loop-again : tie.Need-loop-again Inv-loop μ-loop
 loop-again c =
     let s = c .before .before .before .before .before .before .before .before .before in
     let i = c .before .before .before .before .loop .i in
-    let e : c .record-ok .result ≡ recordOk (s .args .k) (row (s .args .w .now) (c .before .before .before .before .before .before .word-stride .result) i) (row (s .args .x .now) (c .before .before .before .before .before .real-stride .result) i) = cc in
+    let e : c .record-ok .result ≡ recordOk (s .args .k) (row (s .args .w .now) (c .before .before .before .before .before .before .word-stride .result) i) (row (s .args .x .now) (c .before .before .before .before .before .real-stride .result) i) = rw (← c .before .before .words-row .ensures, ← c .before .reals-row .ensures) (c .record-ok .ensures) in
     (omega arith, allBelow-turn _ _ _ _ (c .before .before .before .before .loop .inv .1) e)
 
 returns : tie.Need-returns Inv-loop μ-loop

@@ -1,22 +1,14 @@
 -- `tested::edge_ok` meets its contract. Assumes nothing.
+use native.Mathlib.Omega.{arith}
 use borrow.Author.Needs.{needs}
 use Rattle.tested.proofs.edge_ok.Statement.{statement}
 use Rattle.tested.proofs.edge_ok.Tie as tie
 
+marked-requires : tie.Need-marked-requires
+marked-requires c κs = omega arith
+
 shared-slice-read-result : tie.Need-shared-slice-read-result
 shared-slice-read-result c = search needs
-
-shared-slice-read-result-2 : tie.Need-shared-slice-read-result-2
-shared-slice-read-result-2 c = search needs
-
-shared-slice-read-result-3 : tie.Need-shared-slice-read-result-3
-shared-slice-read-result-3 c = search needs
-
-shared-slice-read-result-4 : tie.Need-shared-slice-read-result-4
-shared-slice-read-result-4 c = search needs
-
-shared-slice-read-result-5 : tie.Need-shared-slice-read-result-5
-shared-slice-read-result-5 c = search needs
 
 shared-slice-read-own-ok : tie.Need-shared-slice-read-own-ok
 shared-slice-read-own-ok c = search needs
@@ -28,18 +20,9 @@ own-ok-requires : tie.Need-own-ok-requires
 own-ok-requires c κs = search needs
 
 returns : tie.Need-returns
-returns c = cc
+returns c = rw (c .before .before .before .before .marked .ensures, c .own-ok .ensures)
 
 pub edge-ok-spec : {M : Type 1} → statement M
 edge-ok-spec =
     tie.close
-    (tie.spec
-    shared-slice-read-result
-    shared-slice-read-result-2
-    shared-slice-read-result-3
-    shared-slice-read-result-4
-    shared-slice-read-result-5
-    shared-slice-read-own-ok
-    shared-slice-read-own-ok-2
-    own-ok-requires
-    returns)
+    (tie.spec marked-requires shared-slice-read-result shared-slice-read-own-ok shared-slice-read-own-ok-2 own-ok-requires returns)

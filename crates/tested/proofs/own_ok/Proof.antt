@@ -7,7 +7,7 @@ tolerance-ok-requires : tie.Need-tolerance-ok-requires
 tolerance-ok-requires c κs = search needs
 
 returns : tie.Need-returns
-returns c = cc
+returns c = rw (c .tolerance-ok .ensures)
 
 pub own-ok-spec : {M : Type 1} → statement M
 own-ok-spec = tie.close (tie.spec tolerance-ok-requires returns)

@@ -1,15 +1,14 @@
 -- `tested::record_ok` meets its contract, table by table. Assumes nothing.
 use mathlib.Core.Path.{_≡_, ap, _∙_}
 use native.Mathlib.Omega.{arith}
-use Rattle.model.specs.Layout.{wordStrides, word}
+use Rattle.model.specs.Layout.{wordStrides, realStrides, word}
 use Rattle.model.specs.Readable.{recordOk}
 use Rattle.model.specs.Laws.{upper-words}
-use borrow.Author.Needs.{needs}
 use Rattle.tested.proofs.record_ok.Statement.{statement}
 use Rattle.tested.proofs.record_ok.Tie as tie
 
 upper-ok-requires : tie.Need-upper-ok-requires
-upper-ok-requires c κs = search needs
+upper-ok-requires c κs = (c .if1 .taken, c .before .before .before .pre .words)
 
 returns : tie.Need-returns
 returns c =
@@ -17,16 +16,20 @@ returns c =
     c .upper-ok .ensures ∙ upper-words (s .args .k) (s .args .w .now) (s .args .x .now) (c .before .if1 .taken)
 
 fin-ok-requires : tie.Need-fin-ok-requires
-fin-ok-requires c κs = search needs
+fin-ok-requires c κs = let s = c .before .before .before .before in s .pre .words ∙ ap (word wordStrides) (c .match .keys1)
 
 edge-ok-requires : tie.Need-edge-ok-requires
-edge-ok-requires c κs = search needs
+edge-ok-requires c κs =
+    let s = c .before .before .before .before in
+    (s .pre .words ∙ ap (word wordStrides) (c .match .keys2), s .pre .reals ∙ ap (word realStrides) (c .match .keys2))
 
 vertex-ok-requires : tie.Need-vertex-ok-requires
-vertex-ok-requires c κs = search needs
+vertex-ok-requires c κs =
+    let s = c .before .before .before .before in
+    (s .pre .words ∙ ap (word wordStrides) (c .match .keys3), s .pre .reals ∙ ap (word realStrides) (c .match .keys3))
 
 carrier-ok-requires : tie.Need-carrier-ok-requires
-carrier-ok-requires c κs = search needs
+carrier-ok-requires c κs = let s = c .before .before .before .before in s .pre .words ∙ ap (word wordStrides) (c .match .keys4)
 
 carrier-ok-requires-2 : tie.Need-carrier-ok-requires-2
 carrier-ok-requires-2 c κs =

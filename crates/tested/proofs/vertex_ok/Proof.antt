@@ -16,7 +16,7 @@ own-ok-requires : tie.Need-own-ok-requires
 own-ok-requires c κs = search needs
 
 returns : tie.Need-returns
-returns c = cc
+returns c = rw (c .own-ok .ensures)
 
 pub vertex-ok-spec : {M : Type 1} → statement M
 vertex-ok-spec =
