@@ -8,7 +8,7 @@ base-requires : tie.Need-base-requires
 base-requires c κs = (c .before .pre, (reals-strides, search needs))
 
 returns : tie.Need-returns
-returns c = search needs
+returns c = c .base .ensures
 
 pub reals-needed-spec : {M : Type 1} → statement M
 reals-needed-spec = tie.close (tie.spec base-requires returns)

@@ -30,7 +30,7 @@ add-result c =
     record { fits = omega arith }
 
 returns : tie.Need-returns
-returns c = search needs
+returns c = rw (c .before .base .ensures)
 
 pub record-at-spec : {M : Type 1} → statement M
 record-at-spec =

@@ -8,7 +8,7 @@ record-at-requires : tie.Need-record-at-requires
 record-at-requires c κs = (c .before .pre .0, (words-strides, search needs))
 
 returns : tie.Need-returns
-returns c = search needs
+returns c = c .record-at .ensures
 
 pub word-at-spec : {M : Type 1} → statement M
 word-at-spec = tie.close (tie.spec record-at-requires returns)
