@@ -9,7 +9,7 @@ is-finite-requires c κs = search needs
 
 returns : tie.Need-returns
 unfolding ofBits
-returns c = cc
+returns c = rw (c .is-finite .ensures)
 
 pub tolerance-ok-spec : {M : Type 1} → statement M
 tolerance-ok-spec = tie.close (tie.spec is-finite-requires returns)
