@@ -11,6 +11,4 @@ pub mod Formed
 pub mod Computing
 pub mod Stone
 pub mod Blade
-pub mod Trial
-pub mod Cases
-pub mod Reports
+pub mod Telling

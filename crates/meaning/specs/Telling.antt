@@ -1,0 +1,165 @@
+-- Evaluations that tell the definitions from wrong ones: each edit of must-fail/ makes one of them false. Assumes nothing.
+-- Each asks the smallest model and the innermost definition that tell, since every edit evaluates them again; the crate `evaluated` has the whole tables.
+use Prim.Native.Nat.{ℕ, _^_}
+use mathlib.Core.Path.{_≡_, refl}
+use mathlib.Core.Bool.{true, false}
+use mathlib.Core.List.{List, [], _∷_, map}
+use mathlib.Core.Option.{none, some}
+use lib.Ieee.{Float, binary64, neg, toBits}
+use Rattle.geometry.specs.declared.tolerance.Tolerance.the-variants.{Own}
+use Rattle.meaning.specs.Floats.{_/ᶠ_, real}
+use Rattle.meaning.specs.Model.{positive, negative, Fin, Edge, Vertex, Model, Limits, largest}
+use Rattle.meaning.specs.Refuse.{Answer, refused, given}
+use Rattle.meaning.specs.Walks.{faceWalk, edgeWalk, vertexWalk}
+use Rattle.meaning.specs.Inquire.{boxOf, sideVolume}
+use Rattle.meaning.specs.Split.{EdgeSplit, test10, test11, test13, boundsRefusal, splitLineEdge, modelAfter}
+use Rattle.meaning.specs.Faults.{Finding, skipped, fault, sampleAt, curveTest, findings, checkRefusal, fitToSaw}
+use Rattle.meaning.specs.Stone.{at, way, line, plane, up, finOf, loopOf, stone}
+use Rattle.meaning.specs.Blade.{blade, withLoop, withVertex, withCurve, withSurface, quarter, onAxis, asSolid, edgeIs, endsAre, finsAre, faceIs, shellIs, startAt, endAt, otherCurve, otherSurface, tolerantEdge, room}
+use Rattle.meaning.specs.Computing.{computing}
+
+-- ---- walks
+
+-- each at its first meeting
+first-meetings : faceWalk (shellIs 0 (9 ∷ 0 ∷ 9 ∷ []) [] [] blade) 0 ≡ 9 ∷ 0 ∷ []
+unfolding computing
+first-meetings = refl
+
+-- wire edges come behind those of the loops
+wire-edges-behind : edgeWalk (shellIs 0 (0 ∷ []) (9 ∷ 0 ∷ []) [] blade) 0 ≡ 0 ∷ 9 ∷ []
+unfolding computing
+wire-edges-behind = refl
+
+-- start, then end
+start-then-end : vertexWalk blade 0 ≡ 0 ∷ 1 ∷ []
+unfolding computing
+start-then-end = refl
+
+-- ---- box and volume
+
+abbrev bits : Float → ℕ
+bits x = toBits binary64 x
+
+-- of equal zeros the first met
+first-zero : bits (boxOf (at (real 0) (neg (real 0)) (real 0) ∷ onAxis (real 4) ∷ []) .min .y) ≡ 0x8000_0000_0000_0000
+unfolding computing
+first-zero = refl
+
+-- a front side reverses the points: the top of the trial stone has -8 from the outer shell
+front-reversed : bits (sideVolume stone (record { shell = 0; face = 1 })) ≡ 0xc020_0000_0000_0000
+unfolding computing
+front-reversed = refl
+
+-- ---- the tests of a split
+
+-- 4 before 5: no end and no curve
+ends-before-curve : boundsRefusal (edgeIs none (some 1) none [] blade) 0 ≡ 7
+unfolding computing
+ends-before-curve = refl
+
+-- 10: near the end
+near-the-end : test10 blade 0 (real 4095 /ᶠ real 4096) ≡ 4
+unfolding computing
+near-the-end = refl
+
+-- 11: half the precision is the edge's tolerance, so that 0.0009 is off the plane
+half-precision : test11 (withSurface 0 (plane (at (real 0) (real 0) (real 1 /ᶠ real 1100)) up) blade) 0 quarter ≡ 1
+unfolding computing
+half-precision = refl
+
+-- 11: an edge from (100,0,0) to (103,4,0) on an upright plane, with the tolerance 2^-48: both ends are on the plane, and what lies between is rounded off it
+abbrev askew : Model
+askew =
+    tolerantEdge (real 1 /ᶠ real (2 ^ 48))
+    (startAt (onAxis (real 100))
+    (endAt (at (real 103) (real 4) (real 0))
+    (withCurve 0 (line (onAxis (real 100)) (way (real 3 /ᶠ real 5) (real 4 /ᶠ real 5) (real 0)))
+    (withSurface 0 (plane (onAxis (real 100)) (way (real 4 /ᶠ real 5) (neg (real 3 /ᶠ real 5)) (real 0))) blade))))
+
+between-the-ends : test11 askew 0 (real 1 /ᶠ real 5) ≡ 1
+unfolding computing
+between-the-ends = refl
+
+-- 13: both new fins of the loop are counted together
+fins-together : test13 (room 4 2 3 2 3 2) blade 0 ≡ 8
+unfolding computing
+fins-together = refl
+
+-- ---- the model after a split of the blade, its edge with a tolerance of its own and listed among the shell's wire edges
+
+pub record Seen : Type 0 where
+  pub loopFins : List ℕ
+  pub wireEdges : List ℕ
+  pub edges : List Edge
+  pub fins : List Fin
+  pub vertex : Vertex
+  pub used : List ℕ
+
+abbrev seen : Model → Seen
+seen m =
+    record {
+      loopFins = m .loops .slot 0 .fins;
+      wireEdges = m .shells .slot 0 .wireEdges;
+      edges = m .edges .slot 0 ∷ m .edges .slot 1 ∷ [];
+      fins = m .fins .slot 2 ∷ m .fins .slot 3 ∷ [];
+      vertex = m .vertices .slot 2;
+      used = m .fins .used ∷ m .edges .used ∷ m .vertices .used ∷ m .loops .used ∷ [];
+    }
+
+abbrev wired : Model
+wired = tolerantEdge quarter (shellIs 0 (0 ∷ []) (7 ∷ 0 ∷ 8 ∷ []) [] blade)
+
+accepted : seen (modelAfter largest wired 0 quarter)
+    ≡ record {
+      loopFins = 0 ∷ 2 ∷ 3 ∷ 1 ∷ [];
+      wireEdges = 7 ∷ 0 ∷ 1 ∷ 8 ∷ [];
+      edges =
+          record { fins = 0 ∷ 1 ∷ []; start = some 0; end = some 2; curve = some 0; tolerance = Own quarter }
+          ∷ record { fins = 2 ∷ 3 ∷ []; start = some 2; end = some 1; curve = some 0; tolerance = Own quarter }
+          ∷ [];
+      fins = finOf 0 1 positive ∷ finOf 0 1 negative ∷ [];
+      vertex = record { point = onAxis (real 1); tolerance = Own quarter };
+      used = 4 ∷ 2 ∷ 3 ∷ 1 ∷ [];
+    }
+unfolding computing
+accepted = refl
+
+-- for want of room in the loop nothing is written
+refused-whole : modelAfter (room 4 2 3 2 3 2) blade 0 quarter .vertices .used ≡ 2
+unfolding computing
+refused-whole = refl
+
+-- ---- reports
+
+-- samples, then the body
+samples-before-body : checkRefusal blade (record { geometry = false; edgeSamples = 256 }) 1 ≡ 1
+unfolding computing
+samples-before-body = refl
+
+abbrev topology : Model → List Finding
+topology m = findings m (record { geometry = false; edgeSamples = 0 }) 0
+
+-- a face that its front shell does not list is checked nowhere
+front-shell-alone : topology (faceIs (some 9) (some 0) (9 ∷ []) none blade) ≡ []
+unfolding computing
+front-shell-alone = refl
+
+-- a solid's edge with one fin, where the walk fails
+no-walk-no-edge : topology (asSolid (finsAre (0 ∷ []) (withLoop 0 (loopOf 0 (0 ∷ 9 ∷ [])) blade))) ≡ fault 13 0 ∷ []
+unfolding computing
+no-walk-no-edge = refl
+
+-- a start just at the sum of both tolerances: a check not made
+unresolved : curveTest (tolerantEdge quarter (withVertex 0 (record { point = at (real 0) (real 1 /ᶠ real 2) (real 0); tolerance = Own quarter }) blade)) 0 0 0 ≡ skipped ∷ []
+unfolding computing
+unresolved = refl
+
+-- a sample is ((t1 - t0)·k)/(n + 1), and not (t1 - t0)·(k/(n + 1))
+product-first : bits (sampleAt (real 0) (real 3) 4 1) ≡ 0x3fe3_3333_3333_3333
+unfolding computing
+product-first = refl
+
+-- no fault, and two checks not made
+not-fit : fitToSaw (endsAre none none (otherCurve (otherSurface blade))) 0 ≡ given false
+unfolding computing
+not-fit = refl
