@@ -15,7 +15,7 @@ use Rattle.meaning.specs.Walks.{Ends, bodyFaces, bodyEdges, bodyVertices, finVe
 use Rattle.meaning.specs.Inquire.{bodyBoundingBox, bodyVolume}
 use Rattle.meaning.specs.Split.{ParamRange, EdgeSplit, edgeParameterBounds, splitTests, splitLineEdge, modelAfter}
 use Rattle.meaning.specs.Stone.{at, way, line, plane, right, left, up, vertexAt, finOf, loopOf, shellOf, regionOf, stone}
-use Rattle.meaning.specs.Blade.{Row, _gives_, blade, withPrecision, withRegion, withShell, withLoop, withFin, withVertex, withCurve, withSurface, quarter, onAxis, bodyOf, asSolid, edgeIs, endsAre, curveIs, finsAre, faceIs, surfaceIs, loopsAre, shellIs, startAt, endAt, otherCurve, otherSurface, tolerantEdge, room}
+use Rattle.meaning.specs.Blade.{Row, _gives_, blade, withPrecision, withRegion, withShell, withLoop, withFin, withVertex, withCurve, withSurface, quarter, onAxis, bodyOf, asSolid, edgeIs, endsAre, curveIs, finsAre, faceIs, surfaceIs, loopsAre, shellIs, startAt, endAt, otherCurve, otherSurface, tolerantEdge, askew, room}
 use Rattle.meaning.specs.Computing.{computing}
 
 -- ---- inserts and edits: the order of their refusals
@@ -198,20 +198,8 @@ within x = record { limits = x; model = shellIs 0 (0 ∷ []) (0 ∷ []) [] blade
 abbrev slopeAt : Float → Model → Model
 slopeAt x = withSurface 0 (plane (onAxis x) (way (real 3 /ᶠ real 5) (real 0) (real 4 /ᶠ real 5)))
 
--- an edge from (100,0,0) to (103,4,0) on an upright plane, with the tolerance 2^-48: both ends are on the plane, and what lies between is rounded
 abbrev askewAt : Float → Cutting
-askewAt t =
-    record {
-      limits = largest;
-      model =
-          tolerantEdge (real 1 /ᶠ real (2 ^ 48))
-          (startAt (onAxis (real 100))
-          (endAt (at (real 103) (real 4) (real 0))
-          (withCurve 0 (line (onAxis (real 100)) (way (real 3 /ᶠ real 5) (real 4 /ᶠ real 5) (real 0)))
-          (withSurface 0 (plane (onAxis (real 100)) (way (real 4 /ᶠ real 5) (neg (real 3 /ᶠ real 5)) (real 0))) blade))));
-      edge = 0;
-      fraction = t;
-    }
+askewAt t = record { limits = largest; model = askew; edge = 0; fraction = t }
 
 abbrev cuts : List (Row Cutting (List ℕ))
 cuts =

@@ -1,9 +1,9 @@
 -- The blade, a small model to be damaged, and models with one record changed.
-use Prim.Native.Nat.{ℕ}
+use Prim.Native.Nat.{ℕ, _^_}
 use mathlib.Core.Bool.{false}
 use mathlib.Core.List.{List, [], _∷_}
 use mathlib.Core.Option.{Option, none, some}
-use lib.Ieee.{Float}
+use lib.Ieee.{Float, neg}
 use Rattle.vectors.specs.declared.vector.Point3.{Point3}
 use Rattle.geometry.specs.declared.tolerance.Tolerance.the-variants.{Own, Session}
 use Rattle.store.specs.declared.Carrier.{Carrier}
@@ -11,7 +11,7 @@ use Rattle.store.specs.declared.Carrier.the-variants as Carriers
 use Rattle.meaning.specs.Floats.{_/ᶠ_, real}
 use Rattle.meaning.specs.Model.{sheet, solid, positive, negative, Body, Region, Shell, Face, Loop, Fin, Edge, Vertex, Table, Model, Limits}
 use Rattle.meaning.specs.Edits.{edited}
-use Rattle.meaning.specs.Stone.{milli, at, line, plane, right, up, tableOf, vertexAt, edgeOf, finOf, loopOf, shellOf, regionOf, corner}
+use Rattle.meaning.specs.Stone.{milli, at, way, line, plane, right, up, tableOf, vertexAt, edgeOf, finOf, loopOf, shellOf, regionOf, corner}
 
 -- ---- the blade: a sheet of one face, whose loop runs along the edge A, from (0,0,0) to (4,0,0), and back
 
@@ -141,6 +141,15 @@ otherSurface = withSurface 0 Carriers.Other
 -- the edge's own tolerance
 abbrev pub tolerantEdge : Float → Model → Model
 tolerantEdge t = withEdge 0 (record { fins = 0 ∷ 1 ∷ []; start = some 0; end = some 1; curve = some 0; tolerance = Own t })
+
+-- an edge from (100,0,0) to (103,4,0) on an upright plane, with the tolerance 2^-48: both ends are on the plane, and what lies between is rounded
+abbrev pub askew : Model
+askew =
+    tolerantEdge (real 1 /ᶠ real (2 ^ 48))
+    (startAt (onAxis (real 100))
+    (endAt (at (real 103) (real 4) (real 0))
+    (withCurve 0 (line (onAxis (real 100)) (way (real 3 /ᶠ real 5) (real 4 /ᶠ real 5) (real 0)))
+    (withSurface 0 (plane (onAxis (real 100)) (way (real 4 /ᶠ real 5) (neg (real 3 /ᶠ real 5)) (real 0))) blade))))
 
 -- tables of so many fins, edges, vertices; lists of so many wire edges, fins of a loop, fins of an edge
 abbrev pub room : ℕ → ℕ → ℕ → ℕ → ℕ → ℕ → Limits

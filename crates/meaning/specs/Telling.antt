@@ -1,21 +1,21 @@
 -- Evaluations that tell the definitions from wrong ones: each edit of must-fail/ makes one of them false. Assumes nothing.
 -- Each asks the smallest model and the innermost definition that tell, since every edit evaluates them again; the crate `evaluated` has the whole tables.
-use Prim.Native.Nat.{ℕ, _^_}
+use Prim.Native.Nat.{ℕ}
 use mathlib.Core.Path.{_≡_, refl}
-use mathlib.Core.Bool.{true, false}
+use mathlib.Core.Bool.{false}
 use mathlib.Core.List.{List, [], _∷_, map}
 use mathlib.Core.Option.{none, some}
 use lib.Ieee.{Float, binary64, neg, toBits}
 use Rattle.geometry.specs.declared.tolerance.Tolerance.the-variants.{Own}
 use Rattle.meaning.specs.Floats.{_/ᶠ_, real}
-use Rattle.meaning.specs.Model.{positive, negative, Fin, Edge, Vertex, Model, Limits, largest}
-use Rattle.meaning.specs.Refuse.{Answer, refused, given}
+use Rattle.meaning.specs.Model.{Model}
+use Rattle.meaning.specs.Refuse.{given}
 use Rattle.meaning.specs.Walks.{faceWalk, edgeWalk, vertexWalk}
 use Rattle.meaning.specs.Inquire.{boxOf, sideVolume}
-use Rattle.meaning.specs.Split.{EdgeSplit, test10, test11, test13, boundsRefusal, splitLineEdge, modelAfter}
+use Rattle.meaning.specs.Split.{test10, test11, test13, boundsRefusal, afterSplit, modelAfter}
 use Rattle.meaning.specs.Faults.{Finding, skipped, fault, sampleAt, curveTest, findings, checkRefusal, fitToSaw}
-use Rattle.meaning.specs.Stone.{at, way, line, plane, up, finOf, loopOf, stone}
-use Rattle.meaning.specs.Blade.{blade, withLoop, withVertex, withCurve, withSurface, quarter, onAxis, asSolid, edgeIs, endsAre, finsAre, faceIs, shellIs, startAt, endAt, otherCurve, otherSurface, tolerantEdge, room}
+use Rattle.meaning.specs.Stone.{at, plane, up, edgeOf, loopOf, stone}
+use Rattle.meaning.specs.Blade.{blade, withLoop, withVertex, withSurface, quarter, onAxis, asSolid, edgeIs, endsAre, finsAre, faceIs, shellIs, otherCurve, otherSurface, tolerantEdge, askew, room}
 use Rattle.meaning.specs.Computing.{computing}
 
 -- ---- walks
@@ -52,7 +52,7 @@ front-reversed = refl
 
 -- ---- the tests of a split
 
--- 4 before 5: no end and no curve
+-- 4 before 5: no start, and no curve
 ends-before-curve : boundsRefusal (edgeIs none (some 1) none [] blade) 0 ≡ 7
 unfolding computing
 ends-before-curve = refl
@@ -67,15 +67,7 @@ half-precision : test11 (withSurface 0 (plane (at (real 0) (real 0) (real 1 /ᶠ
 unfolding computing
 half-precision = refl
 
--- 11: an edge from (100,0,0) to (103,4,0) on an upright plane, with the tolerance 2^-48: both ends are on the plane, and what lies between is rounded off it
-abbrev askew : Model
-askew =
-    tolerantEdge (real 1 /ᶠ real (2 ^ 48))
-    (startAt (onAxis (real 100))
-    (endAt (at (real 103) (real 4) (real 0))
-    (withCurve 0 (line (onAxis (real 100)) (way (real 3 /ᶠ real 5) (real 4 /ᶠ real 5) (real 0)))
-    (withSurface 0 (plane (onAxis (real 100)) (way (real 4 /ᶠ real 5) (neg (real 3 /ᶠ real 5)) (real 0))) blade))))
-
+-- 11: between two ends on the plane
 between-the-ends : test11 askew 0 (real 1 /ᶠ real 5) ≡ 1
 unfolding computing
 between-the-ends = refl
@@ -85,49 +77,30 @@ fins-together : test13 (room 4 2 3 2 3 2) blade 0 ≡ 8
 unfolding computing
 fins-together = refl
 
--- ---- the model after a split of the blade, its edge with a tolerance of its own and listed among the shell's wire edges
+-- ---- what a split writes: the blade's edge, which is a wire edge of the shell too
 
-pub record Seen : Type 0 where
-  pub loopFins : List ℕ
-  pub wireEdges : List ℕ
-  pub edges : List Edge
-  pub fins : List Fin
-  pub vertex : Vertex
-  pub used : List ℕ
+abbrev halved : Model
+halved = afterSplit (shellIs 0 (0 ∷ []) (7 ∷ 0 ∷ 8 ∷ []) [] blade) 0 quarter
 
-abbrev seen : Model → Seen
-seen m =
-    record {
-      loopFins = m .loops .slot 0 .fins;
-      wireEdges = m .shells .slot 0 .wireEdges;
-      edges = m .edges .slot 0 ∷ m .edges .slot 1 ∷ [];
-      fins = m .fins .slot 2 ∷ m .fins .slot 3 ∷ [];
-      vertex = m .vertices .slot 2;
-      used = m .fins .used ∷ m .edges .used ∷ m .vertices .used ∷ m .loops .used ∷ [];
-    }
-
-abbrev wired : Model
-wired = tolerantEdge quarter (shellIs 0 (0 ∷ []) (7 ∷ 0 ∷ 8 ∷ []) [] blade)
-
-accepted : seen (modelAfter largest wired 0 quarter)
-    ≡ record {
-      loopFins = 0 ∷ 2 ∷ 3 ∷ 1 ∷ [];
-      wireEdges = 7 ∷ 0 ∷ 1 ∷ 8 ∷ [];
-      edges =
-          record { fins = 0 ∷ 1 ∷ []; start = some 0; end = some 2; curve = some 0; tolerance = Own quarter }
-          ∷ record { fins = 2 ∷ 3 ∷ []; start = some 2; end = some 1; curve = some 0; tolerance = Own quarter }
-          ∷ [];
-      fins = finOf 0 1 positive ∷ finOf 0 1 negative ∷ [];
-      vertex = record { point = onAxis (real 1); tolerance = Own quarter };
-      used = 4 ∷ 2 ∷ 3 ∷ 1 ∷ [];
-    }
+-- a new fin stands after a positive old fin, before a negative one
+new-fins-beside : halved .loops .slot 0 .fins ≡ 0 ∷ 2 ∷ 3 ∷ 1 ∷ []
 unfolding computing
-accepted = refl
+new-fins-beside = refl
 
--- for want of room in the loop nothing is written
-refused-whole : modelAfter (room 4 2 3 2 3 2) blade 0 quarter .vertices .used ≡ 2
+-- a new wire edge stands after the old one
+new-wire-edge-after : halved .shells .slot 0 .wireEdges ≡ 7 ∷ 0 ∷ 1 ∷ 8 ∷ []
 unfolding computing
-refused-whole = refl
+new-wire-edge-after = refl
+
+-- the old edge keeps the start, the new one has the end and both new fins
+halves : halved .edges .slot 0 ∷ halved .edges .slot 1 ∷ [] ≡ edgeOf 0 0 2 (0 ∷ 1 ∷ []) ∷ edgeOf 0 2 1 (2 ∷ 3 ∷ []) ∷ []
+unfolding computing
+halves = refl
+
+-- it is written where all tests pass, and nothing for want of room: an edge with no fin, with room for two vertices, and for three
+whole-or-nothing : map (λ x. modelAfter x (finsAre [] blade) 0 quarter .vertices .used) (room 2 2 2 1 2 2 ∷ room 2 2 3 1 2 2 ∷ []) ≡ 2 ∷ 3 ∷ []
+unfolding computing
+whole-or-nothing = refl
 
 -- ---- reports
 
