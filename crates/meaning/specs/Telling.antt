@@ -12,10 +12,10 @@ use Rattle.meaning.specs.Model.{Model}
 use Rattle.meaning.specs.Refuse.{given}
 use Rattle.meaning.specs.Walks.{faceWalk, edgeWalk, vertexWalk}
 use Rattle.meaning.specs.Inquire.{boxOf, sideVolume}
-use Rattle.meaning.specs.Split.{test10, test11, test13, boundsRefusal, afterSplit, modelAfter}
+use Rattle.meaning.specs.Split.{test10, onPlane, test11-fin, test13, boundsRefusal, afterSplit, modelAfter}
 use Rattle.meaning.specs.Faults.{Finding, skipped, fault, sampleAt, curveTest, findings, checkRefusal, fitToSaw}
-use Rattle.meaning.specs.Stone.{at, plane, up, edgeOf, loopOf, stone}
-use Rattle.meaning.specs.Blade.{blade, withLoop, withVertex, withSurface, quarter, onAxis, asSolid, edgeIs, endsAre, finsAre, faceIs, shellIs, otherCurve, otherSurface, tolerantEdge, askew, room}
+use Rattle.meaning.specs.Stone.{at, up, edgeOf, loopOf, stone}
+use Rattle.meaning.specs.Blade.{blade, withLoop, withVertex, quarter, onAxis, asSolid, edgeIs, endsAre, finsAre, faceIs, shellIs, otherCurve, otherSurface, tolerantEdge, askew, room}
 use Rattle.meaning.specs.Computing.{computing}
 
 -- ---- walks
@@ -63,12 +63,12 @@ unfolding computing
 near-the-end = refl
 
 -- 11: half the precision is the edge's tolerance, so that 0.0009 is off the plane
-half-precision : test11 (withSurface 0 (plane (at (real 0) (real 0) (real 1 /ᶠ real 1100)) up) blade) 0 quarter ≡ 1
+half-precision : onPlane blade 0 (record { origin = at (real 0) (real 0) (real 1 /ᶠ real 1100); normal = up }) (real 0) ≡ 1
 unfolding computing
 half-precision = refl
 
 -- 11: between two ends on the plane
-between-the-ends : test11 askew 0 (real 1 /ᶠ real 5) ≡ 1
+between-the-ends : test11-fin askew 0 (real 1 /ᶠ real 5) 0 ≡ 1
 unfolding computing
 between-the-ends = refl
 
