@@ -1,8 +1,7 @@
 -- `store::distance_to_plane` meets its contract: what its calls ensure, and which way the test went. Assumes nothing.
-use mathlib.Core.Path.{_≡_}
-use mathlib.Core.Bool.{true, false}
 use lib.Ieee.Scale.{finite}
-use Rattle.geometry.specs.Geometry.{planeDistance}
+use Rattle.store.specs.declared.Measured.the-variants as Measures
+use Rattle.store.specs.Laws.{passes, fails}
 use borrow.Author.Needs.{needs}
 use Rattle.store.proofs.distance_to_plane.Statement.{statement}
 use Rattle.store.proofs.distance_to_plane.Tie as tie
@@ -15,15 +14,11 @@ is-finite-requires c κs = search needs
 
 returns : tie.Need-returns
 returns c =
-    let s = c .before .before .before in
-    let f : finite (planeDistance (s .args .plane) (s .args .p)) ≡ true = cc in
-    rw f (cc)
+    passes Measures.Is Measures.Refused finite (c .before .before .distance .ensures) (c .before .is-finite .ensures) 4 (c .if1 .taken)
 
 returns-2 : tie.Need-returns-2
 returns-2 c =
-    let s = c .before .before .before in
-    let f : finite (planeDistance (s .args .plane) (s .args .p)) ≡ false = cc in
-    rw f
+    fails Measures.Is Measures.Refused finite (c .before .before .distance .ensures) (c .before .is-finite .ensures) 3 (c .if1 .left)
 
 pub distance-to-plane-spec : {M : Type 1} → statement M
 distance-to-plane-spec =

@@ -1,8 +1,9 @@
 -- `store::distance_to_surface` meets its contract: which way the tests went, and what the record is. Assumes nothing.
-use mathlib.Core.Path.{_≡_, sym, _∙_}
+use mathlib.Core.Path.{_≡_, sym, ap, _∙_}
 use mathlib.Core.Bool.{true, false}
 use borrow.Author.Tests.{not-true, not-false}
 use Rattle.vectors.specs.Space.{finitePoint}
+use Rattle.store.specs.declared.Measured.the-variants as Measures
 use Rattle.store.specs.Queries.{planeRefusal, thePlane, planeAnswer, distanceToSurface}
 use Rattle.store.specs.Laws.{plane-refused, plane-given}
 use borrow.Author.Needs.{needs}
@@ -36,7 +37,7 @@ returns-2 c =
     let s = c .before .before .before .before .before .before in
     let f : finitePoint (s .args .p) ≡ true = sym (c .before .before .before .before .before .is-finite .ensures) ∙ not-false (c .before .before .before .before .before .is-finite .result) (c .before .before .before .before .if1 .left) in
     let w = plane-refused (planeRefusal (s .args .surface)) _ (thePlane (s .args .surface)) (sym (c .before .before .before .plane-of .ensures) ∙ c .before .n .given .1) in
-    rw (f, w .number) (cc (w .given))
+    rw (f, w .number) (ap Measures.Refused (w .given))
 
 returns-3 : tie.Need-returns-3
 unfolding planeAnswer distanceToSurface

@@ -1,8 +1,9 @@
 -- `store::eval_curve` meets its contract: which way the tests went, and what the record is. Assumes nothing.
-use mathlib.Core.Path.{_≡_, sym, _∙_}
+use mathlib.Core.Path.{_≡_, sym, ap, _∙_}
 use mathlib.Core.Bool.{true, false}
 use borrow.Author.Tests.{not-true, not-false}
 use lib.Ieee.Scale.{finite}
+use Rattle.store.specs.declared.Evaluated.the-variants as Evaluations
 use Rattle.store.specs.Queries.{lineRefusal, theLine, lineAnswer, evalCurve}
 use Rattle.store.specs.Laws.{line-refused, line-given}
 use borrow.Author.Needs.{needs}
@@ -36,7 +37,7 @@ returns-2 c =
     let s = c .before .before .before .before .before .before in
     let f : finite (s .args .t) ≡ true = sym (c .before .before .before .before .before .is-finite .ensures) ∙ not-false (c .before .before .before .before .before .is-finite .result) (c .before .before .before .before .if1 .left) in
     let w = line-refused (lineRefusal (s .args .curve)) _ (theLine (s .args .curve)) (sym (c .before .before .before .line-of .ensures) ∙ c .before .n .given .1) in
-    rw (f, w .number) (cc (w .given))
+    rw (f, w .number) (ap Evaluations.Refused (w .given))
 
 returns-3 : tie.Need-returns-3
 unfolding lineAnswer evalCurve

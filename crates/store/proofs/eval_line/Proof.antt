@@ -1,8 +1,7 @@
 -- `store::eval_line` meets its contract: what its calls ensure, and which way the test went. Assumes nothing.
-use mathlib.Core.Path.{_≡_}
-use mathlib.Core.Bool.{true, false}
 use Rattle.vectors.specs.Space.{finitePoint}
-use Rattle.geometry.specs.Geometry.{linePoint}
+use Rattle.store.specs.declared.Evaluated.the-variants as Evaluations
+use Rattle.store.specs.Laws.{passes, fails}
 use borrow.Author.Needs.{needs}
 use Rattle.store.proofs.eval_line.Statement.{statement}
 use Rattle.store.proofs.eval_line.Tie as tie
@@ -15,15 +14,11 @@ is-finite-requires c κs = search needs
 
 returns : tie.Need-returns
 returns c =
-    let s = c .before .before .before in
-    let f : finitePoint (linePoint (s .args .line) (s .args .t)) ≡ true = cc in
-    rw f (cc)
+    passes Evaluations.At Evaluations.Refused finitePoint (c .before .before .eval .ensures) (c .before .is-finite .ensures) 4 (c .if1 .taken)
 
 returns-2 : tie.Need-returns-2
 returns-2 c =
-    let s = c .before .before .before in
-    let f : finitePoint (linePoint (s .args .line) (s .args .t)) ≡ false = cc in
-    rw f
+    fails Evaluations.At Evaluations.Refused finitePoint (c .before .before .eval .ensures) (c .before .is-finite .ensures) 3 (c .if1 .left)
 
 pub eval-line-spec : {M : Type 1} → statement M
 eval-line-spec = tie.close (tie.spec eval-requires is-finite-requires returns returns-2)

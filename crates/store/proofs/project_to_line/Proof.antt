@@ -1,10 +1,6 @@
 -- `store::project_to_line` meets its contract: what its calls ensure, and which way the tests went. Assumes nothing.
-use mathlib.Core.Path.{_≡_}
-use mathlib.Core.Bool.{true, false}
 use borrow.Author.Tests.{not-true, not-false}
-use lib.Ieee.Scale.{finite}
-use Rattle.vectors.specs.Space.{finitePoint}
-use Rattle.geometry.specs.Geometry.{linePoint, nearest}
+use Rattle.store.specs.Laws.{no-parameter, no-point, a-point}
 use borrow.Author.Needs.{needs}
 use Rattle.store.proofs.project_to_line.Statement.{statement}
 use Rattle.store.proofs.project_to_line.Tie as tie
@@ -18,10 +14,8 @@ is-finite-requires c κs = search needs
 returns : tie.Need-returns
 returns c =
     let s = c .before .before .before in
-    let t = nearest (s .args .line) (s .args .p) in
-    let n = not-true (c .before .is-finite .result) (c .if1 .taken) in
-    let f : finite t ≡ false = cc in
-    rw f
+    no-parameter (s .args .line) (s .args .p) (c .before .before .closest-param .ensures) (c .before .is-finite .ensures)
+    (not-true (c .before .is-finite .result) (c .if1 .taken))
 
 eval-requires : tie.Need-eval-requires
 eval-requires c κs = search needs
@@ -31,21 +25,19 @@ is-finite-requires-2 c κs = search needs
 
 returns-2 : tie.Need-returns-2
 returns-2 c =
-    let s = c .before .before .before .before .before .before in
-    let t = nearest (s .args .line) (s .args .p) in
-    let n = not-false (c .before .before .before .before .is-finite .result) (c .before .before .before .if1 .left) in
-    let f : finite t ≡ true = cc in
-    let g : finitePoint (linePoint (s .args .line) t) ≡ true = cc in
-    rw (f, g) (cc)
+    let else1 = c .before .before .before in
+    let s = else1 .before .before .before in
+    a-point (s .args .line) (s .args .p) (else1 .before .before .closest-param .ensures) (else1 .before .is-finite .ensures)
+    (not-false (else1 .before .is-finite .result) (else1 .if1 .left)) (c .before .before .eval .ensures)
+    (c .before .is-finite2 .ensures) (c .if2 .taken)
 
 returns-3 : tie.Need-returns-3
 returns-3 c =
-    let s = c .before .before .before .before .before .before in
-    let t = nearest (s .args .line) (s .args .p) in
-    let n = not-false (c .before .before .before .before .is-finite .result) (c .before .before .before .if1 .left) in
-    let f : finite t ≡ true = cc in
-    let g : finitePoint (linePoint (s .args .line) t) ≡ false = cc in
-    rw (f, g)
+    let else1 = c .before .before .before in
+    let s = else1 .before .before .before in
+    no-point (s .args .line) (s .args .p) (else1 .before .before .closest-param .ensures) (else1 .before .is-finite .ensures)
+    (not-false (else1 .before .is-finite .result) (else1 .if1 .left)) (c .before .before .eval .ensures)
+    (c .before .is-finite2 .ensures) (c .if2 .left)
 
 pub project-to-line-spec : {M : Type 1} → statement M
 project-to-line-spec =
