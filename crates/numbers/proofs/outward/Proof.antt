@@ -1,5 +1,7 @@
 -- `numbers::outward` meets its contract: what its calls ensure, put together, is `outwardI`. Assumes nothing.
+use mathlib.Core.Path.{ap₂, _∙_}
 use borrow.Author.Needs.{needs}
+use Rattle.numbers.specs.Ops.{checkedI}
 use Rattle.numbers.proofs.outward.Statement.{statement}
 use Rattle.numbers.proofs.outward.Tie as tie
 
@@ -13,7 +15,7 @@ checked-requires : tie.Need-checked-requires
 checked-requires c κs = search needs
 
 returns : tie.Need-returns
-returns c = cc
+returns c = c .checked .ensures ∙ ap₂ checkedI (c .before .before .next-down .ensures) (c .before .next-up .ensures)
 
 pub outward-spec : {M : Type 1} → statement M
 outward-spec = tie.close (tie.spec next-down-requires next-up-requires checked-requires returns)

@@ -1,6 +1,8 @@
 -- `numbers::square_low` meets its contract: each arm returns what `squareLow` picks where its test is as the arm found it. Assumes nothing.
+use mathlib.Core.Path.{ap, _∙_}
 use borrow.Author.Needs.{needs}
-use lib.Ieee.{ofBits}
+use lib.Ieee.{Float, ofBits}
+use Rattle.numbers.specs.Ops.{zeroF, greatestF}
 use Rattle.numbers.proofs.square_low.Statement.{statement}
 use Rattle.numbers.proofs.square_low.Tie as tie
 
@@ -16,7 +18,7 @@ greatest-requires c κs = search needs
 
 returns-2 : tie.Need-returns-2
 unfolding ofBits
-returns-2 c = rw (c .before .before .if1 .left) (cc)
+returns-2 c = rw (c .before .before .if1 .left) (c .greatest .ensures ∙ ap (λ (x : Float). greatestF x zeroF) (c .before .next-down .ensures))
 
 pub square-low-spec : {M : Type 1} → statement M
 square-low-spec = tie.close (tie.spec returns next-down-requires greatest-requires returns-2)

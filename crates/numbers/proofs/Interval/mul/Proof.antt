@@ -1,6 +1,7 @@
 -- `numbers::Interval::mul` meets its contract: what its calls ensure, put together, is `mulI`. Assumes nothing.
+use mathlib.Core.Path.{ap₂, _∙_}
 use borrow.Author.Needs.{needs}
-use Rattle.numbers.specs.Ops.{mulI}
+use Rattle.numbers.specs.Ops.{outwardI, leastF, greatestF, mulI}
 use Rattle.numbers.proofs.Interval.mul.Statement.{statement}
 use Rattle.numbers.proofs.Interval.mul.Tie as tie
 
@@ -27,7 +28,12 @@ outward-requires c κs = search needs
 
 returns : tie.Need-returns
 unfolding mulI
-returns c = cc
+returns c =
+    let greatest2 = c .before .before in
+    let least3 = greatest2 .before .before in
+    c .outward .ensures
+    ∙ ap₂ outwardI (least3 .least3 .ensures ∙ ap₂ leastF (least3 .before .before .least .ensures) (least3 .before .least2 .ensures))
+    (c .before .greatest3 .ensures ∙ ap₂ greatestF (greatest2 .before .greatest .ensures) (greatest2 .greatest2 .ensures))
 
 pub mul-spec : {M : Type 1} → statement M
 mul-spec =

@@ -9,7 +9,7 @@ checked-requires c κs = search needs
 
 returns : tie.Need-returns
 unfolding negI
-returns c = cc
+returns c = c .checked .ensures
 
 pub neg-spec : {M : Type 1} → statement M
 neg-spec = tie.close (tie.spec checked-requires returns)

@@ -1,7 +1,9 @@
 -- `numbers::Interval::sqr` meets its contract: what its calls ensure, put together, is `sqrI`. Assumes nothing.
+use mathlib.Core.Path.{ap, ap₂, _∙_}
 use borrow.Author.Needs.{needs}
 use lib.Ieee.{ofBits}
-use Rattle.numbers.specs.Ops.{sqrI}
+use Rattle.numbers.specs.Next.{nextUp}
+use Rattle.numbers.specs.Ops.{checkedI, squareLow, sqrI}
 use Rattle.numbers.proofs.Interval.sqr.Statement.{statement}
 use Rattle.numbers.proofs.Interval.sqr.Tie as tie
 
@@ -25,7 +27,11 @@ checked-requires c κs = search needs
 
 returns : tie.Need-returns
 unfolding sqrI ofBits
-returns c = cc
+returns c =
+    let low = c .before .before .before in
+    c .checked .ensures
+    ∙ ap₂ checkedI (low .square-low .ensures ∙ ap₂ squareLow (low .before .before .contains .ensures) (low .before .least .ensures))
+    (c .before .next-up .ensures ∙ ap nextUp (c .before .before .greatest .ensures))
 
 pub sqr-spec : {M : Type 1} → statement M
 sqr-spec =
