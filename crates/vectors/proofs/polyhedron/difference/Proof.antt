@@ -1,5 +1,7 @@
 -- `vectors::polyhedron::difference` meets its contract: what its calls ensure, put together, is `differenceI`. Assumes nothing.
+use mathlib.Core.Path.{ap₂, _∙_}
 use borrow.Author.Needs.{needs}
+use Rattle.numbers.specs.Ops.{subI}
 use Rattle.vectors.specs.Space.{differenceI}
 use Rattle.vectors.proofs.polyhedron.difference.Statement.{statement}
 use Rattle.vectors.proofs.polyhedron.difference.Tie as tie
@@ -15,7 +17,7 @@ sub-requires c κs = search needs
 
 returns : tie.Need-returns
 unfolding differenceI
-returns c = cc
+returns c = c .sub .ensures ∙ ap₂ subI (c .before .before .point .ensures) (c .before .point2 .ensures)
 
 pub difference-spec : {M : Type 1} → statement M
 difference-spec = tie.close (tie.spec point-requires point-requires-2 sub-requires returns)

@@ -1,5 +1,7 @@
 -- `vectors::polyhedron::dot` meets its contract: what its calls ensure, put together, is `dotI`. Assumes nothing.
+use mathlib.Core.Path.{ap₂, _∙_}
 use borrow.Author.Needs.{needs}
+use Rattle.numbers.specs.Ops.{addI}
 use Rattle.vectors.specs.Space.{dotI}
 use Rattle.vectors.proofs.polyhedron.dot.Statement.{statement}
 use Rattle.vectors.proofs.polyhedron.dot.Tie as tie
@@ -21,7 +23,10 @@ add-requires-2 c κs = search needs
 
 returns : tie.Need-returns
 unfolding dotI
-returns c = cc
+returns c =
+    let add = c .before .before in
+    c .add2 .ensures
+    ∙ ap₂ addI (add .add .ensures ∙ ap₂ addI (add .before .before .mul .ensures) (add .before .mul2 .ensures)) (c .before .mul3 .ensures)
 
 pub dot-spec : {M : Type 1} → statement M
 dot-spec =

@@ -15,7 +15,8 @@ point-requires-3 c κs = search needs
 
 returns : tie.Need-returns
 unfolding pointI3
-returns c = cc
+returns c =
+    λ i. record { x = c .before .before .point .ensures i; y = c .before .point2 .ensures i; z = c .point3 .ensures i }
 
 pub point3-spec : {M : Type 1} → statement M
 point3-spec = tie.close (tie.spec point-requires point-requires-2 point-requires-3 returns)

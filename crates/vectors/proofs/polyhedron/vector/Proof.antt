@@ -15,7 +15,8 @@ difference-requires-3 c κs = search needs
 
 returns : tie.Need-returns
 unfolding vectorI
-returns c = cc
+returns c =
+    λ i. record { x = c .before .before .difference .ensures i; y = c .before .difference2 .ensures i; z = c .difference3 .ensures i }
 
 pub vector-spec : {M : Type 1} → statement M
 vector-spec =

@@ -1,4 +1,6 @@
 -- `vectors::vector::Point3::is_finite` meets its contract: what its calls ensure, put together, is `finitePoint`. Assumes nothing.
+use mathlib.Core.Path.{ap₂}
+use mathlib.Core.Bool.{_&&_}
 use borrow.Author.Needs.{needs}
 use Rattle.vectors.specs.Space.{finitePoint}
 use Rattle.vectors.proofs.vector.Point3.is_finite.Statement.{statement}
@@ -15,7 +17,7 @@ is-finite-requires-3 c κs = search needs
 
 returns : tie.Need-returns
 unfolding finitePoint
-returns c = cc
+returns c = ap₂ _&&_ (ap₂ _&&_ (c .before .before .is-finite .ensures) (c .before .is-finite2 .ensures)) (c .is-finite3 .ensures)
 
 pub is-finite-spec : {M : Type 1} → statement M
 is-finite-spec =
