@@ -1,5 +1,8 @@
 -- `curve::Line::closest_param` meets its contract: what its calls ensure, put together, is `nearest`. Assumes nothing.
+use mathlib.Core.Path.{ap, _∙_}
 use borrow.Author.Needs.{needs}
+use Rattle.vectors.specs.declared.vector.Vec3.{Vec3}
+use Rattle.vectors.specs.Space.{dotV}
 use Rattle.geometry.specs.Geometry.{nearest}
 use Rattle.geometry.proofs.curve.Line.closest_param.Statement.{statement}
 use Rattle.geometry.proofs.curve.Line.closest_param.Tie as tie
@@ -12,7 +15,7 @@ dot-requires c κs = search needs
 
 returns : tie.Need-returns
 unfolding nearest
-returns c = cc
+returns c = c .dot .ensures ∙ ap (λ (v : Vec3). dotV v (c .before .before .args .self .direction)) (c .before .sub .ensures)
 
 pub closest-param-spec : {M : Type 1} → statement M
 closest-param-spec = tie.close (tie.spec sub-requires dot-requires returns)

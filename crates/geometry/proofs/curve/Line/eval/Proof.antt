@@ -1,5 +1,7 @@
 -- `curve::Line::eval` meets its contract: what its calls ensure, put together, is `linePoint`. Assumes nothing.
+use mathlib.Core.Path.{ap, _∙_}
 use borrow.Author.Needs.{needs}
+use Rattle.vectors.specs.Space.{along}
 use Rattle.geometry.specs.Geometry.{linePoint}
 use Rattle.geometry.proofs.curve.Line.eval.Statement.{statement}
 use Rattle.geometry.proofs.curve.Line.eval.Tie as tie
@@ -12,7 +14,7 @@ add-requires c κs = search needs
 
 returns : tie.Need-returns
 unfolding linePoint
-returns c = cc
+returns c = c .add .ensures ∙ ap (along (c .before .before .args .self .origin)) (c .before .mul .ensures)
 
 pub eval-spec : {M : Type 1} → statement M
 eval-spec = tie.close (tie.spec mul-requires add-requires returns)

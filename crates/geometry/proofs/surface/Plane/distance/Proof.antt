@@ -1,6 +1,9 @@
 -- `surface::Plane::distance` meets its contract: what its calls ensure, put together, is `planeDistance`. Assumes nothing.
+use mathlib.Core.Path.{ap, _∙_}
 use borrow.Author.Needs.{needs}
-use Rattle.geometry.specs.Geometry.{planeDistance}
+use Rattle.vectors.specs.declared.vector.Vec3.{Vec3}
+use Rattle.vectors.specs.Space.{dotV}
+use Rattle.geometry.specs.Geometry.{sizeF, planeDistance}
 use Rattle.geometry.proofs.surface.Plane.distance.Statement.{statement}
 use Rattle.geometry.proofs.surface.Plane.distance.Tie as tie
 
@@ -15,7 +18,9 @@ abs-requires c κs = search needs
 
 returns : tie.Need-returns
 unfolding planeDistance
-returns c = cc
+returns c =
+    let sub = c .before .before in
+    c .abs .ensures ∙ ap sizeF (c .before .dot .ensures ∙ ap (λ (v : Vec3). dotV v (sub .before .args .self .normal)) (sub .sub .ensures))
 
 pub distance-spec : {M : Type 1} → statement M
 distance-spec = tie.close (tie.spec sub-requires dot-requires abs-requires returns)
