@@ -1,5 +1,9 @@
 -- `signs::apart` meets its contract: what its calls ensure, put together, is `apartS`. Assumes nothing.
+use mathlib.Core.Path.{ap, ap₂, _∙_}
 use borrow.Author.Needs.{needs}
+use Rattle.numbers.specs.Ops.{subI, sqrI, signI}
+use Rattle.vectors.specs.declared.polyhedron.Interval3.{Interval3}
+use Rattle.vectors.specs.Space.{dotI}
 use Rattle.signs.specs.Signs.{apartS}
 use Rattle.signs.proofs.apart.Statement.{statement}
 use Rattle.signs.proofs.apart.Tie as tie
@@ -24,7 +28,13 @@ sign-requires c κs = search needs
 
 returns : tie.Need-returns
 unfolding apartS
-returns c = cc
+returns c =
+    let sqr = c .before .before in
+    let dot = sqr .before .before in
+    c .sign .ensures
+    ∙ ap signI
+    (c .before .sub .ensures
+    ∙ ap₂ subI (dot .dot .ensures ∙ ap (λ (v : Interval3). dotI v v) (dot .before .vector .ensures)) (sqr .sqr .ensures ∙ ap sqrI (sqr .before .point .ensures)))
 
 pub apart-spec : {M : Type 1} → statement M
 apart-spec =

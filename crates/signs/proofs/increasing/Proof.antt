@@ -1,5 +1,8 @@
 -- `signs::increasing` meets its contract: what its calls ensure, put together, is `increasingS`. Assumes nothing.
+use mathlib.Core.Path.{ap, ap₂, _∙_}
 use borrow.Author.Needs.{needs}
+use Rattle.numbers.specs.Ops.{signI}
+use Rattle.vectors.specs.Space.{dotI}
 use Rattle.signs.specs.Signs.{increasingS}
 use Rattle.signs.proofs.increasing.Statement.{statement}
 use Rattle.signs.proofs.increasing.Tie as tie
@@ -18,7 +21,9 @@ sign-requires c κs = search needs
 
 returns : tie.Need-returns
 unfolding increasingS
-returns c = cc
+returns c =
+    let point3 = c .before .before in
+    c .sign .ensures ∙ ap signI (c .before .dot .ensures ∙ ap₂ dotI (point3 .before .vector .ensures) (point3 .point3 .ensures))
 
 pub increasing-spec : {M : Type 1} → statement M
 increasing-spec =

@@ -1,5 +1,9 @@
 -- `signs::off_curve` meets its contract: what its calls ensure, put together, is `offCurveS`. Assumes nothing.
+use mathlib.Core.Path.{ap, ap₂, _∙_}
 use borrow.Author.Needs.{needs}
+use Rattle.numbers.specs.Ops.{addI, subI, sqrI, signI}
+use Rattle.vectors.specs.declared.polyhedron.Interval3.{Interval3}
+use Rattle.vectors.specs.Space.{dotI}
 use Rattle.signs.specs.Signs.{offCurveS}
 use Rattle.signs.proofs.off_curve.Statement.{statement}
 use Rattle.signs.proofs.off_curve.Tie as tie
@@ -30,7 +34,16 @@ sign-requires c κs = search needs
 
 returns : tie.Need-returns
 unfolding offCurveS
-returns c = cc
+returns c =
+    let sqr = c .before .before in
+    let add = sqr .before .before in
+    let point2 = add .before in
+    c .sign .ensures
+    ∙ ap signI
+    (c .before .sub .ensures
+    ∙ ap₂ subI
+    (sqr .before .dot .ensures ∙ ap (λ (v : Interval3). dotI v v) (point2 .before .before .vector .ensures))
+    (sqr .sqr .ensures ∙ ap sqrI (add .add .ensures ∙ ap₂ addI (point2 .before .point .ensures) (point2 .point2 .ensures))))
 
 pub off-curve-spec : {M : Type 1} → statement M
 off-curve-spec =

@@ -1,5 +1,8 @@
 -- `signs::off_plane` meets its contract: what its calls ensure, put together, is `offPlaneS`. Assumes nothing.
+use mathlib.Core.Path.{ap, ap₂, _∙_}
 use borrow.Author.Needs.{needs}
+use Rattle.numbers.specs.Ops.{subI, sqrI, signI}
+use Rattle.vectors.specs.Space.{dotI}
 use Rattle.signs.specs.Signs.{offPlaneS}
 use Rattle.signs.proofs.off_plane.Statement.{statement}
 use Rattle.signs.proofs.off_plane.Tie as tie
@@ -30,7 +33,16 @@ sign-requires c κs = search needs
 
 returns : tie.Need-returns
 unfolding offPlaneS
-returns c = cc
+returns c =
+    let sqr2 = c .before .before in
+    let sqr = sqr2 .before .before in
+    let vector = sqr .before .before in
+    c .sign .ensures
+    ∙ ap signI
+    (c .before .sub .ensures
+    ∙ ap₂ subI
+    (sqr .sqr .ensures ∙ ap sqrI (sqr .before .dot .ensures ∙ ap₂ dotI (vector .before .point3 .ensures) (vector .vector .ensures)))
+    (sqr2 .sqr2 .ensures ∙ ap sqrI (sqr2 .before .point .ensures)))
 
 pub off-plane-spec : {M : Type 1} → statement M
 off-plane-spec =

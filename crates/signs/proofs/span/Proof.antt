@@ -1,5 +1,7 @@
 -- `signs::span` meets its contract: what its calls ensure, put together, is `spanS`. Assumes nothing.
+use mathlib.Core.Path.{ap, _∙_}
 use borrow.Author.Needs.{needs}
+use Rattle.numbers.specs.Ops.{signI}
 use Rattle.signs.specs.Signs.{spanS}
 use Rattle.signs.proofs.span.Statement.{statement}
 use Rattle.signs.proofs.span.Tie as tie
@@ -12,7 +14,7 @@ sign-requires c κs = search needs
 
 returns : tie.Need-returns
 unfolding spanS
-returns c = cc
+returns c = c .sign .ensures ∙ ap signI (c .before .difference .ensures)
 
 pub span-spec : {M : Type 1} → statement M
 span-spec = tie.close (tie.spec difference-requires sign-requires returns)
