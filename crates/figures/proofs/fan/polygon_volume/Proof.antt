@@ -1,11 +1,15 @@
 -- `fan::polygon_volume` meets its contract: a turn of the loop is one more triangle of the fan. Assumes nothing.
 use Prim.Native.Nat.{_≤_, _-_}
-use mathlib.Core.Path.{_≡_, sym, _∙_}
+use mathlib.Core.Path.{_≡_, sym, ap, ap₂, _∙_}
 use native.Mathlib.Omega.{arith}
 use lib.ListN.{drop}
+use lib.Ieee.{Float}
 use Rattle.numbers.specs.Ops.{zeroF}
+use Rattle.vectors.specs.declared.vector.Point3.{Point3}
+use Rattle.vectors.specs.Space.{_+ᶠ_}
+use Rattle.meaning.specs.Floats.{_/ᶠ_}
 use Rattle.meaning.specs.Inquire.{fan}
-use Rattle.figures.specs.Figures.{pointsOf, turned}
+use Rattle.figures.specs.Figures.{pointsOf, turned, wedge}
 use Rattle.figures.specs.Laws.{points-length, turned-length, fan-turn, fan-done, polygon-none, polygon-fan, zero-bits, six-bits}
 use borrow.Author.Needs.{needs}
 use Rattle.figures.proofs.fan.polygon_volume.Statement.{statement}
@@ -54,10 +58,12 @@ loop-again c =
     let s = c .before .before .before .before .before .before .before .before in
     let l = turned (s .args .back) (pointsOf (s .args .points .now)) in
     let long = turned-length (s .args .back) (pointsOf (s .args .points .now)) ∙ points-length (s .args .n) (s .args .points .now) (s .pre .0) in
-    let inv = c .before .before .before .before .loop .inv in (
+    let turn = c .before .before .before .before .loop in
+    let o = c .before .before .before .before .before .corner .result in
+    let more = c .wedge .ensures ∙ ap₂ (wedge o) (c .before .before .corner2 .ensures) (c .before .corner3 .ensures) in (
       omega arith,
       omega arith,
-      inv .2 ∙ fan-turn _ _ _ l (c .before .before .before .before .loop .k) (omega arith) (cc),
+      turn .inv .2 ∙ fan-turn o (turn .acc) _ l (turn .k) (omega arith) (ap (λ (w : Float). turn .acc +ᶠ w) more),
     )
 
 returns-2 : tie.Need-returns-2 Inv-loop μ-loop
@@ -68,7 +74,9 @@ returns-2 c =
     let inv = c .before .loop .inv in
     let done = inv .2 ∙ fan-done _ _ l (c .before .loop .k) (omega arith) in
     let first = c .before .before .corner .ensures in
-    sym (polygon-fan l (omega arith) ∙ cc (six-bits))
+    sym
+    (polygon-fan l (omega arith)
+    ∙ ap₂ _/ᶠ_ (ap (λ (o : Point3). fan o zeroF (drop 1 l)) (sym first) ∙ done) (sym six-bits))
 
 pub polygon-volume-spec : {M : Type 1} → statement M
 polygon-volume-spec =

@@ -1,4 +1,7 @@
 -- `fan::wedge` meets its contract: what its calls ensure. Assumes nothing.
+use mathlib.Core.Path.{ap, ap₂, _∙_}
+use Rattle.vectors.specs.Space.{dotV, crossV}
+use Rattle.meaning.specs.Floats.{toVec}
 use Rattle.figures.specs.Figures.{wedge}
 use borrow.Author.Needs.{needs}
 use Rattle.figures.proofs.fan.wedge.Statement.{statement}
@@ -18,7 +21,10 @@ dot-requires c κs = search needs
 
 returns : tie.Need-returns
 unfolding wedge
-returns c = cc
+returns c =
+    let sub2 = c .before .before in
+    let o = sub2 .before .before .args .o in
+    c .dot .ensures ∙ ap (dotV (toVec o)) (c .before .cross .ensures ∙ ap₂ crossV (sub2 .before .sub .ensures) (sub2 .sub2 .ensures))
 
 pub wedge-spec : {M : Type 1} → statement M
 wedge-spec = tie.close (tie.spec sub-requires sub-requires-2 cross-requires dot-requires returns)

@@ -13,7 +13,7 @@ enum-told : tie.Need-enum-told
 enum-told c = search needs
 
 returns : tie.Need-returns
-returns c = search needs
+returns c = sym (ap (λ (l : Tolerance). effective l (c .before .before .before .args .precision)) (c .before .local .given .1))
 
 returns-2 : tie.Need-returns-2
 returns-2 c = sym (ap (λ (l : Tolerance). effective l (c .before .before .args .precision)) (c .enum-told .given .1))

@@ -24,7 +24,14 @@ greater-requires-3 c κs = search needs
 
 returns : tie.Need-returns
 unfolding included seenBox
-returns c = cc
+returns c =
+    let greater2 = c .before in
+    let lesser3 = greater2 .before .before in
+    let lesser2 = lesser3 .before in
+    λ i. record {
+      min = record { x = lesser2 .before .lesser .ensures i; y = lesser2 .lesser2 .ensures i; z = lesser3 .lesser3 .ensures i };
+      max = record { x = greater2 .before .greater .ensures i; y = greater2 .greater2 .ensures i; z = c .greater3 .ensures i };
+    }
 
 pub including-spec : {M : Type 1} → statement M
 including-spec =
