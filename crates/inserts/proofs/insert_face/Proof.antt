@@ -19,7 +19,9 @@ same-length-2 : tie.Need-same-length-2
 same-length-2 c = search needs
 
 returns : tie.Need-returns
-returns c = (cc, (cc, cc))
+returns c =
+    let f = c .before .before .before .before .before .before .before .before .face-fields .ensures in
+    rw (← f) (c .before .before .before .before .insert-fields .ensures)
 
 pub insert-face-spec : {M : Type 1} → statement M
 insert-face-spec =

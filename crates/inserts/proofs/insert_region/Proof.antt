@@ -19,7 +19,9 @@ same-length-2 : tie.Need-same-length-2
 same-length-2 c = search needs
 
 returns : tie.Need-returns
-returns c = (cc, (cc, cc))
+returns c =
+    let f = c .before .before .before .before .before .before .before .before .region-fields .ensures in
+    rw (← f) (c .before .before .before .before .insert-fields .ensures)
 
 pub insert-region-spec : {M : Type 1} → statement M
 insert-region-spec =

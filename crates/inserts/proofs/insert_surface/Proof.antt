@@ -25,7 +25,10 @@ same-length-2 : tie.Need-same-length-2
 same-length-2 c = search needs
 
 returns : tie.Need-returns
-returns c = (cc, (cc, cc))
+returns c =
+    let f = c .before .before .before .before .before .before .before .before .before .before .carrier-fields .ensures in
+    let x = c .before .before .before .before .before .before .before .before .before .carrier-floats .ensures in
+    rw (← f, ← x) (c .before .before .before .before .insert .ensures)
 
 pub insert-surface-spec : {M : Type 1} → statement M
 insert-surface-spec =

@@ -28,7 +28,11 @@ same-length-2 : tie.Need-same-length-2
 same-length-2 c = search needs
 
 returns : tie.Need-returns
-returns c = (cc, (cc, cc))
+returns c =
+    let a = c .before .before .before .before .before .before .before .tolerance-ok .ensures in
+    let f = c .before .before .before .before .before .before .before .before .before .before .before .vertex-fields .ensures in
+    let x = c .before .before .before .before .before .before .before .before .before .before .vertex-floats .ensures in
+    rw (← a, ← f, ← x) (c .before .before .before .before .insert .ensures)
 
 pub insert-vertex-spec : {M : Type 1} → statement M
 insert-vertex-spec =
