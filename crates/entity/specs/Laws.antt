@@ -24,6 +24,10 @@ general-kind (suc (suc zero)) h = absurd (omega arith)
 general-kind (suc (suc (suc zero))) h = absurd (omega arith)
 general-kind (suc (suc (suc (suc n)))) h = refl
 
+-- a place of a slice whose length is known
+pub within : {n m : ℕ} (k : ℕ) → n ≡ m → k < m → k < n
+within k e h = subst (λ (z : ℕ). k < z) (sym e) h
+
 -- ---- a used record's words and floats
 
 pub words-inside : (room w : List ℕ) (k i : ℕ) → Lists room w → k < 10 → i < word w k → Inside (wordsNeeded room) (length w) room k i

@@ -1,33 +1,43 @@
 -- `entity::records::face_of` meets its contract. Assumes nothing.
+use mathlib.Core.Path.{sym}
+use native.Mathlib.Nat.{lt-of-le-of-lt}
+use lib.Dec.{lit≤}
 use Rattle.entity.specs.Seen.{seenFace}
 use Rattle.model.specs.Laws.{held-length}
-use borrow.Author.Needs.{needs}
 use Rattle.entity.proofs.records.face_of.Statement.{statement}
 use Rattle.entity.proofs.records.face_of.Tie as tie
 
 ref-at-requires : tie.Need-ref-at-requires
-ref-at-requires c κs = search needs
+ref-at-requires c κs = lt-of-le-of-lt (lit≤ tt) (c .before .pre .place)
 
 ref-at-requires-2 : tie.Need-ref-at-requires-2
-ref-at-requires-2 c κs = search needs
+ref-at-requires-2 c κs = lt-of-le-of-lt (lit≤ tt) (c .before .before .pre .place)
 
 ref-at-requires-3 : tie.Need-ref-at-requires-3
-ref-at-requires-3 c κs = search needs
+ref-at-requires-3 c κs = lt-of-le-of-lt (lit≤ tt) (c .before .before .before .pre .place)
 
 shared-slice-read-sense-of : tie.Need-shared-slice-read-sense-of
-shared-slice-read-sense-of c = search needs
+shared-slice-read-sense-of c = lt-of-le-of-lt (lit≤ tt) (c .before .before .before .before .before .pre .place)
 
 sense-of-requires : tie.Need-sense-of-requires
-sense-of-requires c κs = search needs
+sense-of-requires c κs = tt
 
 shared-slice-read-t9 : tie.Need-shared-slice-read-t9
-shared-slice-read-t9 c = search needs
+shared-slice-read-t9 c = c .before .before .before .before .before .before .before .pre .place
 
 returns : tie.Need-returns
 unfolding seenFace
 returns c =
-    let s = c .before .before .before .before .before .before .before in
-    cc (held-length (s .args .w .now) 7 (s .pre))
+    let surface = c .before .before .before in
+    let s = surface .before .before .before .before in
+    let loops = held-length (s .args .w .now) 7 (s .pre) in
+    λ i. record {
+      front = surface .before .before .ref-at .ensures i;
+      back = surface .before .ref-at2 .ensures i;
+      surface = surface .ref-at3 .ensures i;
+      sense = c .before .sense-of .ensures i;
+      loops = sym loops i;
+    }
 
 pub face-of-spec : {M : Type 1} → statement M
 face-of-spec =
