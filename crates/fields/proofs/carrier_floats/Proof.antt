@@ -9,13 +9,13 @@ enum-known-carrier : tie.Need-enum-known-carrier
 enum-known-carrier c = search needs
 
 six-requires : tie.Need-six-requires
-six-requires c κs = search needs
+six-requires c κs = tt
 
 enum-known-carrier-2 : tie.Need-enum-known-carrier-2
 enum-known-carrier-2 c = search needs
 
 six-requires-2 : tie.Need-six-requires-2
-six-requires-2 c κs = search needs
+six-requires-2 c κs = tt
 
 enum-told : tie.Need-enum-told
 enum-told c = search needs

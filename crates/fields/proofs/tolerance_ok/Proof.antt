@@ -10,7 +10,7 @@ enum-known-tolerance : tie.Need-enum-known-tolerance
 enum-known-tolerance c = search needs
 
 tolerance-ok-requires : tie.Need-tolerance-ok-requires
-tolerance-ok-requires c κs = search needs
+tolerance-ok-requires c κs = tt
 
 returns : tie.Need-returns
 returns c = search needs

@@ -1,15 +1,15 @@
 -- `fields::vertex_fields` meets its contract. Assumes nothing.
+use mathlib.Core.List.{[], _∷_}
 use Rattle.fields.specs.Fields.{vertexFields}
-use borrow.Author.Needs.{needs}
 use Rattle.fields.proofs.vertex_fields.Statement.{statement}
 use Rattle.fields.proofs.vertex_fields.Tie as tie
 
 tolerance-tag-requires : tie.Need-tolerance-tag-requires
-tolerance-tag-requires c κs = search needs
+tolerance-tag-requires c κs = tt
 
 returns : tie.Need-returns
 unfolding vertexFields
-returns c = cc
+returns c = λ i. c .tolerance-tag .ensures i ∷ []
 
 pub vertex-fields-spec : {M : Type 1} → statement M
 vertex-fields-spec = tie.close (tie.spec tolerance-tag-requires returns)
