@@ -11,11 +11,11 @@ use lib.Ieee.{Float, nan, inf, fin, binary64, fits, isNan, up, down, le, lt}
 use lib.Ieee.Fits.{and-l, and-r}
 use lib.Ieee.Scale.{finite}
 use Rattle.numbers.specs.declared.Interval.{Interval}
-use Rattle.vectors.specs.declared.polyhedron.Interval3.{Interval3}
+use Rattle.ranges.specs.declared.Interval3.{Interval3}
 use Rattle.vectors.specs.declared.vector.Point3.{Point3}
 use Rattle.vectors.specs.declared.vector.Vec3.{Vec3}
 use Rattle.numbers.specs.Ops.{pointI, addI, subI, mulI, negI, containsI, sqrI, signI}
-use Rattle.vectors.specs.Space.{differenceI, pointI3, vectorI, dotI}
+use Rattle.ranges.specs.Ranges.{differenceI, pointI3, vectorI, dotI}
 use Rattle.enclosure.specs.Value.{ONE, units, value, Holds, Real, Whole3, minusW, dotW, valueP, valueV, RealP, RealV, Holds3, SignOf}
 use Rattle.enclosure.specs.Laws.Pairs.{plus, minus, In, over, under}
 use Rattle.enclosure.specs.Laws.Near.{own}

@@ -9,7 +9,7 @@ use lib.Dec.{T}
 use lib.Ieee.{Float, nan, inf, fin, binary64, fits, up, down}
 use lib.Ieee.Scale.{finite}
 use Rattle.numbers.specs.declared.Interval.{Interval}
-use Rattle.vectors.specs.declared.polyhedron.Interval3.{Interval3}
+use Rattle.ranges.specs.declared.Interval3.{Interval3}
 use Rattle.vectors.specs.declared.vector.Point3.{Point3}
 use Rattle.vectors.specs.declared.vector.Vec3.{Vec3}
 use Rattle.numbers.specs.declared.Sign.{Sign}

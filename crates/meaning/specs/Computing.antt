@@ -3,7 +3,8 @@ use Prim.Native.Nat.{ℕ}
 use lib.Ieee.{toBits, ofBits, add, sub, mul, div, neg, round, ofInt, isNan, lt, le, eq}
 use Rattle.numbers.specs.Next.{nextUp, nextDown}
 use Rattle.numbers.specs.Ops.{pointI, addI, subI, mulI, sqrI, signI}
-use Rattle.vectors.specs.Space.{finitePoint, minus, along, scaledV, dotV, crossV, differenceI, pointI3, vectorI, dotI}
+use Rattle.vectors.specs.Space.{finitePoint, minus, along, scaledV, dotV, crossV}
+use Rattle.ranges.specs.Ranges.{differenceI, pointI3, vectorI, dotI}
 use Rattle.geometry.specs.Geometry.{linePoint, nearest, sizeF, planeDistance}
 use Rattle.store.specs.Queries.{theLine, lineRefusal, thePlane, planeRefusal}
 use Rattle.signs.specs.Signs.{increasingS, spanS, apartS, offPlaneS, offCurveS}

@@ -6,12 +6,12 @@ use geometry::surface::Plane;
 use geometry::tolerance::Tolerance;
 use numbers::Interval;
 use numbers::Sign;
+use ranges::Interval3;
 use store::Carrier;
 use store::Evaluated;
 use store::Found;
 use store::Measured;
 use store::Projected;
-use vectors::polyhedron::Interval3;
 use vectors::vector::Point3;
 use vectors::vector::Vec3;
 
@@ -211,15 +211,9 @@ fn vector_op(op: u32, x: &[f64; 12], out: &mut [f64; 6]) -> u32 {
 
 fn intervals_op(op: u32, x: &[f64; 12], out: &mut [f64; 6]) -> u32 {
     match op {
-        19 => put_intervals(out, vectors::polyhedron::point3(first_vec(x))),
-        20 => put_intervals(
-            out,
-            vectors::polyhedron::vector(first_point(x), second_point(x)),
-        ),
-        _ => put_interval(
-            out,
-            vectors::polyhedron::dot(first_intervals(x), second_intervals(x)),
-        ),
+        19 => put_intervals(out, ranges::point3(first_vec(x))),
+        20 => put_intervals(out, ranges::vector(first_point(x), second_point(x))),
+        _ => put_interval(out, ranges::dot(first_intervals(x), second_intervals(x))),
     }
 }
 

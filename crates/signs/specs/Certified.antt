@@ -6,7 +6,7 @@ use lib.Ieee.{Float}
 use Rattle.vectors.specs.declared.vector.Point3.{Point3}
 use Rattle.vectors.specs.declared.vector.Vec3.{Vec3}
 use Rattle.numbers.specs.Ops.{pointI}
-use Rattle.vectors.specs.Space.{vectorI, dotI}
+use Rattle.ranges.specs.Ranges.{vectorI, dotI}
 use Rattle.enclosure.specs.Value.{value, valueP, valueV, Real, RealP, RealV, Whole3, minusW, dotW, Holds, SignOf}
 use Rattle.enclosure.specs.Enclose.{point-holds, point3-holds, difference-holds, vector-holds, add-encloses, sub-encloses, sqr-encloses, dot-encloses, rescaled, sign-is}
 use Rattle.geometry.specs.declared.surface.Plane.{Plane}

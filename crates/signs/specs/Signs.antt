@@ -4,7 +4,7 @@ use Rattle.numbers.specs.declared.Sign.{Sign}
 use Rattle.numbers.specs.Ops.{pointI, addI, subI, sqrI, signI}
 use Rattle.vectors.specs.declared.vector.Point3.{Point3}
 use Rattle.vectors.specs.declared.vector.Vec3.{Vec3}
-use Rattle.vectors.specs.Space.{differenceI, pointI3, vectorI, dotI}
+use Rattle.ranges.specs.Ranges.{differenceI, pointI3, vectorI, dotI}
 use Rattle.geometry.specs.declared.surface.Plane.{Plane}
 
 -- 01, "Splitting", 7: "Interval of direction·(end - start)"

@@ -3,10 +3,10 @@
 use geometry::surface::Plane;
 use numbers::Interval;
 use numbers::Sign;
-use vectors::polyhedron::difference;
-use vectors::polyhedron::dot;
-use vectors::polyhedron::point3;
-use vectors::polyhedron::vector;
+use ranges::difference;
+use ranges::dot;
+use ranges::point3;
+use ranges::vector;
 use vectors::vector::Point3;
 use vectors::vector::Vec3;
 ghost use mathlib.Core.Path.{_≡_};

@@ -1,12 +1,9 @@
--- Points and vectors of floats (vector.rs), and the same as intervals (`vector` and `dot` of polyhedron.rs). Each step is one IEEE 754 operation on binary64. Definitions only.
+-- Points and vectors of floats (vector.rs). Each step is one IEEE 754 operation on binary64. Definitions only.
 use mathlib.Core.Bool.{Bool, _&&_}
 use lib.Ieee.{Float, binary64, add, sub, mul}
 use lib.Ieee.Scale.{finite}
-use Rattle.numbers.specs.declared.Interval.{Interval}
 use Rattle.vectors.specs.declared.vector.Point3.{Point3}
 use Rattle.vectors.specs.declared.vector.Vec3.{Vec3}
-use Rattle.vectors.specs.declared.polyhedron.Interval3.{Interval3}
-use Rattle.numbers.specs.Ops.{pointI, addI, subI, mulI}
 
 infixl 60 _+ᶠ_
 infixl 60 _-ᶠ_
@@ -19,8 +16,6 @@ x -ᶠ y = sub binary64 x y
 
 abbrev pub _*ᶠ_ : Float → Float → Float
 x *ᶠ y = mul binary64 x y
-
--- ---- points and vectors of floats
 
 -- `is_finite` of a point
 unfoldable pub finitePoint : Point3 → Bool
@@ -55,21 +50,3 @@ crossV v w =
       y = v .z *ᶠ w .x -ᶠ v .x *ᶠ w .z;
       z = v .x *ᶠ w .y -ᶠ v .y *ᶠ w .x;
     }
-
--- ---- vectors of intervals
-
--- a vector of floats, each an interval of one number
-unfoldable pub pointI3 : Vec3 → Interval3
-pointI3 v = record { x = pointI (v .x); y = pointI (v .y); z = pointI (v .z) }
-
--- a - b, of two floats
-unfoldable pub differenceI : Float → Float → Interval
-differenceI a b = subI (pointI a) (pointI b)
-
--- p - q (polyhedron.rs, `vector`)
-unfoldable pub vectorI : Point3 → Point3 → Interval3
-vectorI p q = record { x = differenceI (p .x) (q .x); y = differenceI (p .y) (q .y); z = differenceI (p .z) (q .z) }
-
--- polyhedron.rs, `dot`
-unfoldable pub dotI : Interval3 → Interval3 → Interval
-dotI a b = addI (addI (mulI (a .x) (b .x)) (mulI (a .y) (b .y))) (mulI (a .z) (b .z))

@@ -1,3 +1,2 @@
-// Points and vectors of floats (vector.rs), and vectors of intervals (`vector` and `dot` of polyhedron.rs).
-pub mod polyhedron;
+// Points and vectors of floats (vector.rs).
 pub mod vector;

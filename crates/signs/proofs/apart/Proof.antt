@@ -2,8 +2,8 @@
 use mathlib.Core.Path.{ap, ap₂, _∙_}
 use borrow.Author.Needs.{needs}
 use Rattle.numbers.specs.Ops.{subI, sqrI, signI}
-use Rattle.vectors.specs.declared.polyhedron.Interval3.{Interval3}
-use Rattle.vectors.specs.Space.{dotI}
+use Rattle.ranges.specs.declared.Interval3.{Interval3}
+use Rattle.ranges.specs.Ranges.{dotI}
 use Rattle.signs.specs.Signs.{apartS}
 use Rattle.signs.proofs.apart.Statement.{statement}
 use Rattle.signs.proofs.apart.Tie as tie

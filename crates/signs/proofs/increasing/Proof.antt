@@ -2,7 +2,7 @@
 use mathlib.Core.Path.{ap, ap₂, _∙_}
 use borrow.Author.Needs.{needs}
 use Rattle.numbers.specs.Ops.{signI}
-use Rattle.vectors.specs.Space.{dotI}
+use Rattle.ranges.specs.Ranges.{dotI}
 use Rattle.signs.specs.Signs.{increasingS}
 use Rattle.signs.proofs.increasing.Statement.{statement}
 use Rattle.signs.proofs.increasing.Tie as tie

@@ -2,7 +2,7 @@
 use mathlib.Core.Path.{ap, ap₂, _∙_}
 use borrow.Author.Needs.{needs}
 use Rattle.numbers.specs.Ops.{subI, sqrI, signI}
-use Rattle.vectors.specs.Space.{dotI}
+use Rattle.ranges.specs.Ranges.{dotI}
 use Rattle.signs.specs.Signs.{offPlaneS}
 use Rattle.signs.proofs.off_plane.Statement.{statement}
 use Rattle.signs.proofs.off_plane.Tie as tie

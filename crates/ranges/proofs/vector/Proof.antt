@@ -1,8 +1,8 @@
--- `vectors::polyhedron::vector` meets its contract: what its calls ensure, put together, is `vectorI`. Assumes nothing.
+-- `ranges::vector` meets its contract: what its calls ensure, put together, is `vectorI`. Assumes nothing.
 use borrow.Author.Needs.{needs}
-use Rattle.vectors.specs.Space.{vectorI}
-use Rattle.vectors.proofs.polyhedron.vector.Statement.{statement}
-use Rattle.vectors.proofs.polyhedron.vector.Tie as tie
+use Rattle.ranges.specs.Ranges.{vectorI}
+use Rattle.ranges.proofs.vector.Statement.{statement}
+use Rattle.ranges.proofs.vector.Tie as tie
 
 difference-requires : tie.Need-difference-requires
 difference-requires c κs = search needs

@@ -1,9 +1,9 @@
 // Vectors of intervals: `vector` and `dot` of polyhedron.rs.
-use crate::vector::Point3;
-use crate::vector::Vec3;
 use numbers::Interval;
+use vectors::vector::Point3;
+use vectors::vector::Vec3;
 ghost use mathlib.Core.Path.{_≡_};
-ghost use Rattle.vectors.specs.Space.{differenceI, pointI3, vectorI, dotI};
+ghost use Rattle.ranges.specs.Ranges.{differenceI, pointI3, vectorI, dotI};
 
 pub struct Interval3 {
     pub x: Interval,

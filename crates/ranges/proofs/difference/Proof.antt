@@ -1,10 +1,10 @@
--- `vectors::polyhedron::difference` meets its contract: what its calls ensure, put together, is `differenceI`. Assumes nothing.
+-- `ranges::difference` meets its contract: what its calls ensure, put together, is `differenceI`. Assumes nothing.
 use mathlib.Core.Path.{ap₂, _∙_}
 use borrow.Author.Needs.{needs}
 use Rattle.numbers.specs.Ops.{subI}
-use Rattle.vectors.specs.Space.{differenceI}
-use Rattle.vectors.proofs.polyhedron.difference.Statement.{statement}
-use Rattle.vectors.proofs.polyhedron.difference.Tie as tie
+use Rattle.ranges.specs.Ranges.{differenceI}
+use Rattle.ranges.proofs.difference.Statement.{statement}
+use Rattle.ranges.proofs.difference.Tie as tie
 
 point-requires : tie.Need-point-requires
 point-requires c κs = search needs

@@ -1,10 +1,10 @@
--- `vectors::polyhedron::dot` meets its contract: what its calls ensure, put together, is `dotI`. Assumes nothing.
+-- `ranges::dot` meets its contract: what its calls ensure, put together, is `dotI`. Assumes nothing.
 use mathlib.Core.Path.{ap₂, _∙_}
 use borrow.Author.Needs.{needs}
 use Rattle.numbers.specs.Ops.{addI}
-use Rattle.vectors.specs.Space.{dotI}
-use Rattle.vectors.proofs.polyhedron.dot.Statement.{statement}
-use Rattle.vectors.proofs.polyhedron.dot.Tie as tie
+use Rattle.ranges.specs.Ranges.{dotI}
+use Rattle.ranges.proofs.dot.Statement.{statement}
+use Rattle.ranges.proofs.dot.Tie as tie
 
 mul-requires : tie.Need-mul-requires
 mul-requires c κs = search needs

@@ -1,8 +1,8 @@
--- `vectors::polyhedron::point3` meets its contract: what its calls ensure, put together, is `pointI3`. Assumes nothing.
+-- `ranges::point3` meets its contract: what its calls ensure, put together, is `pointI3`. Assumes nothing.
 use borrow.Author.Needs.{needs}
-use Rattle.vectors.specs.Space.{pointI3}
-use Rattle.vectors.proofs.polyhedron.point3.Statement.{statement}
-use Rattle.vectors.proofs.polyhedron.point3.Tie as tie
+use Rattle.ranges.specs.Ranges.{pointI3}
+use Rattle.ranges.proofs.point3.Statement.{statement}
+use Rattle.ranges.proofs.point3.Tie as tie
 
 point-requires : tie.Need-point-requires
 point-requires c κs = search needs
