@@ -294,6 +294,14 @@ empty : (l : List ℕ) → length l ≡ 0 → l ≡ []
 empty [] e = refl
 empty (y ∷ l) e = absurd (omega arith)
 
+-- a part of the memory that is the path: it is as short, and its walk is the path's
+pub path-fits : {front path : List ℕ} {m : ℕ} → front ≡ path → length path ≤ m → length front ≤ m
+path-fits {front} {path} {m} e h = subst (λ (l : List ℕ). length l ≤ m) (sym e) h
+
+pub wrote-along : (room w : List ℕ) {front path out₀ out : List ℕ} {code n : ℕ} → front ≡ path → Wrote (firsts (idsOf room w front)) out₀ out code n
+    → Wrote (firsts (idsOf room w path)) out₀ out code n
+wrote-along room w {front} {path} {out₀} {out} {code} {n} e s = subst (λ (l : List ℕ). Wrote (firsts (idsOf room w l)) out₀ out code n) e s
+
 -- counted on no list at all
 nothing-put : (ids dry : List ℕ) (n : ℕ) → Visited ids [] dry n → dry ≡ []
 nothing-put ids dry n v = empty dry (ap length (v .list) ∙ puts-length [] 0 (firsts ids))

@@ -1,16 +1,10 @@
 -- `uses::fins::fins_refusal` meets its contract: the first refusal goes to the label. Assumes nothing.
 use Prim.Native.Nat.{_+_, _≤_, _<_, _-_}
+use native.Mathlib.Numerals.{add-one-le}
 use native.Mathlib.Omega.{arith}
 use borrow.Author.Needs.{needs}
 use mathlib.Core.Path.{_≡_, refl, sym, ap, _∙_}
 use lib.Dec.{eqb}
-use lib.ListN.{length, getD, take}
-use lib.Seq.{take-all}
-use Rattle.meaning.specs.Lists.{count}
-use Rattle.lists.specs.Lists.{count-none}
-use Rattle.model.specs.Laws.{lists-of}
-use Rattle.uses.specs.Laws.{one-le, count-turn, count-part, from, used, times, held, at-use, owner-there, at-count, at-face, next-fin, no-fin-left}
-use mathlib.Core.Path.{_≡_, refl, sym, ap, _∙_}
 use lib.ListN.{length, getD, take}
 use lib.Seq.{take-all}
 use Rattle.meaning.specs.Lists.{count}
@@ -43,14 +37,14 @@ use-refusal-requires c κs =
     let e = s .args .edge in
     let cut = s .args .cut in
     let so-far = c .before .fins .inv .2 in
-    let h : k < length l = omega arith in
+    let h : k < length l = c .fins-test .taken in
     (lists-of (s .args .room .now) (s .args .words .now) (s .args .reals .now) (s .pre .0), (s .pre .1, h))
 
 mul-owner-of : tie.Need-mul-owner-of Inv-loop μ-loop Inv-fins μ-fins
 mul-owner-of c = omega arith
 
 shared-slice-read-owner-of : tie.Need-shared-slice-read-owner-of Inv-loop μ-loop Inv-fins μ-fins
-shared-slice-read-owner-of c = omega arith
+shared-slice-read-owner-of c = c .before .before .before .fins-test .taken
 
 cast-owner-of : tie.Need-cast-owner-of Inv-loop μ-loop Inv-fins μ-fins
 cast-owner-of c = omega (arith, c .shared-slice-known4 .given (c .before .before .before .before .fins .k))
@@ -63,7 +57,7 @@ owner-of-requires c κs =
     let e = s .args .edge in
     let cut = s .args .cut in
     let so-far = c .before .before .before .before .fins .inv .2 in
-    let h : k < length l = omega arith in
+    let h : k < length l = c .before .before .before .fins-test .taken in
     (lists-of (s .args .room .now) (s .args .words .now) (s .args .reals .now) (s .pre .0), s .pre .1 .there k h)
 
 list-requires : tie.Need-list-requires Inv-loop μ-loop Inv-fins μ-fins
@@ -74,7 +68,7 @@ list-requires c κs =
     let e = s .args .edge in
     let cut = s .args .cut in
     let so-far = c .before .before .before .before .before .fins .inv .2 in
-    let h : k < length l = omega arith in
+    let h : k < length l = c .before .before .before .before .fins-test .taken in
     let u : used (s .args .room .now) (s .args .words .now) (s .args .reals .now) e cut l k ≡ 0 = sym (c .before .before .before .use-refusal .ensures) ∙ c .before .before .if1 .left in
     (lists-of (s .args .room .now) (s .args .words .now) (s .args .reals .now) (s .pre .0), (omega arith, rw (c .owner-of .ensures) (owner-there (s .args .room .now) (s .args .words .now) (s .args .reals .now) e cut l k h so-far u)))
 
@@ -106,7 +100,7 @@ loop-less : tie.Need-loop-less Inv-loop μ-loop Inv-fins μ-fins
 loop-less c = omega arith
 
 loop-again : tie.Need-loop-again Inv-loop μ-loop Inv-fins μ-fins
-loop-again c = (omega arith, omega arith, count-turn _ (c .before .before .before .before .before .before .list .result .now) (c .before .before .before .before .before .loop .j) _ _ (omega arith) (c .before .before .before .before .before .loop .inv .2) (c .before .one-if .ensures))
+loop-again c = (add-one-le (c .before .before .before .before .loop-test .taken), c .if2 .left, count-turn _ (c .before .before .before .before .before .before .list .result .now) (c .before .before .before .before .before .loop .j) _ _ (c .before .before .before .before .loop-test .taken) (c .before .before .before .before .before .loop .inv .2) (c .before .one-if .ensures))
 
 face-of-requires : tie.Need-face-of-requires Inv-loop μ-loop Inv-fins μ-fins
 face-of-requires c κs =
@@ -116,7 +110,7 @@ face-of-requires c κs =
     let e = s .args .edge in
     let cut = s .args .cut in
     let so-far = c .before .before .before .before .before .before .before .before .before .fins .inv .2 in
-    let h : k < length l = omega arith in
+    let h : k < length l = c .before .before .before .before .before .before .before .before .fins-test .taken in
     let u : used (s .args .room .now) (s .args .words .now) (s .args .reals .now) e cut l k ≡ 0 = sym (c .before .before .before .before .before .before .before .use-refusal .ensures) ∙ c .before .before .before .before .before .before .if1 .left in
     (lists-of (s .args .room .now) (s .args .words .now) (s .args .reals .now) (s .pre .0), rw (c .before .before .before .before .owner-of .ensures) (owner-there (s .args .room .now) (s .args .words .now) (s .args .reals .now) e cut l k h so-far u))
 
@@ -137,13 +131,13 @@ fins-again c =
     let e = s .args .edge in
     let cut = s .args .cut in
     let so-far = c .before .before .before .before .before .before .before .before .before .before .before .before .fins .inv .2 in
-    let h : k < length l = omega arith in
+    let h : k < length l = c .before .before .before .before .before .before .before .before .before .before .before .fins-test .taken in
     let u : used (s .args .room .now) (s .args .words .now) (s .args .reals .now) e cut l k ≡ 0 = sym (c .before .before .before .before .before .before .before .before .before .before .use-refusal .ensures) ∙ c .before .before .before .before .before .before .before .before .before .if1 .left in
     let same : count (getD l k 0) (c .before .before .before .before .before .before .list .result .now) ≡ times (s .args .room .now) (s .args .words .now) (s .args .reals .now) e cut l k = rw (c .before .before .before .before .before .before .list .ensures, c .before .before .before .before .before .before .before .owner-of .ensures) in
-    let all = c .before .before .before .before .before .loop .inv .2 ∙ ap (count (getD l k 0)) (take-all (c .before .before .before .before .before .loop .j) _ (omega arith)) in
+    let all = c .before .before .before .before .before .loop .inv .2 ∙ ap (count (getD l k 0)) (take-all (c .before .before .before .before .before .loop .j) _ (c .before .before .before .before .loop-test .left)) in
     let t : times (s .args .room .now) (s .args .words .now) (s .args .reals .now) e cut l k ≡ 1 = sym same ∙ sym all ∙ c .before .before .before .if3 .left in
     let f : c .before .face-refusal .result ≡ held (s .args .room .now) (s .args .words .now) (s .args .reals .now) e cut l k = rw (c .before .face-refusal .ensures, c .before .before .face-of .ensures, c .before .before .before .before .before .before .before .owner-of .ensures) in
-    (omega arith, c .if4 .left, next-fin (s .args .room .now) (s .args .words .now) (s .args .reals .now) e cut l k h so-far u t (sym f ∙ c .if4 .left))
+    (add-one-le h, c .if4 .left, next-fin (s .args .room .now) (s .args .words .now) (s .args .reals .now) e cut l k h so-far u t (sym f ∙ c .if4 .left))
 
 returns : tie.Need-returns Inv-loop μ-loop Inv-fins μ-fins
 returns c =
@@ -158,7 +152,7 @@ returns-2 c =
     let e = s .args .edge in
     let cut = s .args .cut in
     let so-far = c .before .before .before .fins .inv .2 in
-    let h : k < length l = omega arith in
+    let h : k < length l = c .before .before .fins-test .taken in
     at-use (s .args .room .now) (s .args .words .now) (s .args .reals .now) e cut l k h so-far _ (c .before .use-refusal .ensures) (c .if1 .taken)
 
 returns-3 : tie.Need-returns-3 Inv-loop μ-loop Inv-fins μ-fins
@@ -169,10 +163,10 @@ returns-3 c =
     let e = s .args .edge in
     let cut = s .args .cut in
     let so-far = c .before .before .before .before .before .before .before .before .before .before .before .before .fins .inv .2 in
-    let h : k < length l = omega arith in
+    let h : k < length l = c .before .before .before .before .before .before .before .before .before .before .before .fins-test .taken in
     let u : used (s .args .room .now) (s .args .words .now) (s .args .reals .now) e cut l k ≡ 0 = sym (c .before .before .before .before .before .before .before .before .before .before .use-refusal .ensures) ∙ c .before .before .before .before .before .before .before .before .before .if1 .left in
     let same : count (getD l k 0) (c .before .before .before .before .before .before .list .result .now) ≡ times (s .args .room .now) (s .args .words .now) (s .args .reals .now) e cut l k = rw (c .before .before .before .before .before .before .list .ensures, c .before .before .before .before .before .before .before .owner-of .ensures) in
-    let q = count-turn (getD l k 0) (c .before .before .before .before .before .before .list .result .now) (c .before .before .before .before .before .loop .j) _ _ (omega arith) (c .before .before .before .before .before .loop .inv .2) (c .before .one-if .ensures) in
+    let q = count-turn (getD l k 0) (c .before .before .before .before .before .before .list .result .now) (c .before .before .before .before .before .loop .j) _ _ (c .before .before .before .before .loop-test .taken) (c .before .before .before .before .before .loop .inv .2) (c .before .one-if .ensures) in
     let p = count-part (getD l k 0) (c .before .before .before .before .before .loop .j + 1) (c .before .before .before .before .before .before .list .result .now) in
     at-count (s .args .room .now) (s .args .words .now) (s .args .reals .now) e cut l k h so-far u (λ t. omega arith)
 
@@ -184,10 +178,10 @@ returns-4 c =
     let e = s .args .edge in
     let cut = s .args .cut in
     let so-far = c .before .before .before .before .before .before .before .before .before .fins .inv .2 in
-    let h : k < length l = omega arith in
+    let h : k < length l = c .before .before .before .before .before .before .before .before .fins-test .taken in
     let u : used (s .args .room .now) (s .args .words .now) (s .args .reals .now) e cut l k ≡ 0 = sym (c .before .before .before .before .before .before .before .use-refusal .ensures) ∙ c .before .before .before .before .before .before .if1 .left in
     let same : count (getD l k 0) (c .before .before .before .list .result .now) ≡ times (s .args .room .now) (s .args .words .now) (s .args .reals .now) e cut l k = rw (c .before .before .before .list .ensures, c .before .before .before .before .owner-of .ensures) in
-    let all = c .before .before .loop .inv .2 ∙ ap (count (getD l k 0)) (take-all (c .before .before .loop .j) _ (omega arith)) in
+    let all = c .before .before .loop .inv .2 ∙ ap (count (getD l k 0)) (take-all (c .before .before .loop .j) _ (c .before .loop-test .left)) in
     at-count (s .args .room .now) (s .args .words .now) (s .args .reals .now) e cut l k h so-far u (λ t. c .if3 .taken (all ∙ same ∙ t))
 
 returns-5 : tie.Need-returns-5 Inv-loop μ-loop Inv-fins μ-fins
@@ -198,10 +192,10 @@ returns-5 c =
     let e = s .args .edge in
     let cut = s .args .cut in
     let so-far = c .before .before .before .before .before .before .before .before .before .before .before .before .fins .inv .2 in
-    let h : k < length l = omega arith in
+    let h : k < length l = c .before .before .before .before .before .before .before .before .before .before .before .fins-test .taken in
     let u : used (s .args .room .now) (s .args .words .now) (s .args .reals .now) e cut l k ≡ 0 = sym (c .before .before .before .before .before .before .before .before .before .before .use-refusal .ensures) ∙ c .before .before .before .before .before .before .before .before .before .if1 .left in
     let same : count (getD l k 0) (c .before .before .before .before .before .before .list .result .now) ≡ times (s .args .room .now) (s .args .words .now) (s .args .reals .now) e cut l k = rw (c .before .before .before .before .before .before .list .ensures, c .before .before .before .before .before .before .before .owner-of .ensures) in
-    let all = c .before .before .before .before .before .loop .inv .2 ∙ ap (count (getD l k 0)) (take-all (c .before .before .before .before .before .loop .j) _ (omega arith)) in
+    let all = c .before .before .before .before .before .loop .inv .2 ∙ ap (count (getD l k 0)) (take-all (c .before .before .before .before .before .loop .j) _ (c .before .before .before .before .loop-test .left)) in
     let t : times (s .args .room .now) (s .args .words .now) (s .args .reals .now) e cut l k ≡ 1 = sym same ∙ sym all ∙ c .before .before .before .if3 .left in
     let f : c .before .face-refusal .result ≡ held (s .args .room .now) (s .args .words .now) (s .args .reals .now) e cut l k = rw (c .before .face-refusal .ensures, c .before .before .face-of .ensures, c .before .before .before .before .before .before .before .owner-of .ensures) in
     at-face (s .args .room .now) (s .args .words .now) (s .args .reals .now) e cut l k h so-far _ u t f (c .if4 .taken)

@@ -1,7 +1,6 @@
 -- `walks::walks::write_edges` meets its contract. Assumes nothing.
 use mathlib.Core.Path.{sym, ap, _∙_}
 use mathlib.Core.Bool.{_&&_}
-use native.Mathlib.Omega.{arith}
 use borrow.Author.Needs.{needs}
 use lib.ListN.{length}
 use lib.Seq.{length-take-le}
@@ -11,7 +10,7 @@ use Rattle.model.specs.Readable.{readable}
 use Rattle.paths.specs.Paths.{edgeList}
 use Rattle.paths.specs.Laws.{laid-short, laid-front, sources-front, edge-path-short, edge-sources}
 use Rattle.walks.specs.Calls.{reach, edgesNumber, edgesHanded}
-use Rattle.walks.specs.Laws.{edge-list, edges-refusal, accepted-edges, call-refused, call-written, zeros-on, zeros-same, marked-zeros}
+use Rattle.walks.specs.Laws.{edge-list, edges-refusal, accepted-edges, call-refused, call-written, zeros-on, zeros-same, wrote-along, path-fits, marked-zeros}
 use Rattle.walks.proofs.walks.write_edges.Statement.{statement}
 use Rattle.walks.proofs.walks.write_edges.Tie as tie
 
@@ -72,7 +71,7 @@ write-walk-requires c κs =
     let a = accepted-edges (s .args .room .now) (s .args .words .now) (s .args .reals .now) (s .args .body) (reach (s .args .room .now) 3 (s .args .faces .now) && reach (s .args .room .now) 6 (s .args .edges .now)) (sym (c .before .before .before .before .before .before .before .before .before .before .before .before .before .edges-refusal .ensures .0) ∙ c .before .before .before .before .before .before .before .before .before .before .if1 .left) in
     let short = edge-path-short (s .args .room .now) (s .args .words .now) (s .args .body) (a .0) (a .1) in
     let front = laid-front _ _ _ _ (c .before .before .before .before .before .before .before .edge-path .ensures .0) short in
-    (a .0, (sources-front (s .args .room .now) (s .args .words .now) _ _ _ _ (edge-sources (s .args .room .now) (s .args .words .now) (s .args .body) (a .0) (a .1)) (c .before .before .before .before .before .before .before .edge-path .ensures .0) short, (omega (arith, ap length front), zeros-same (s .args .edges .now) _ (c .before .before .before .before .before .before .before .before .before .before .before .before .before .before .before .before .before .clear2 .ensures))))
+    (a .0, (sources-front (s .args .room .now) (s .args .words .now) _ _ _ _ (edge-sources (s .args .room .now) (s .args .words .now) (s .args .body) (a .0) (a .1)) (c .before .before .before .before .before .before .before .edge-path .ensures .0) short, (path-fits front short, zeros-same (s .args .edges .now) _ (c .before .before .before .before .before .before .before .before .before .before .before .before .before .before .before .before .before .clear2 .ensures))))
 
 same-length-3 : tie.Need-same-length-3
 same-length-3 c = search needs
@@ -90,7 +89,7 @@ returns-2 c =
     let a = accepted-edges (s .args .room .now) (s .args .words .now) (s .args .reals .now) (s .args .body) (reach (s .args .room .now) 3 (s .args .faces .now) && reach (s .args .room .now) 6 (s .args .edges .now)) (sym (c .before .before .before .before .before .before .before .before .before .before .before .before .before .before .before .before .before .before .edges-refusal .ensures .0) ∙ c .before .before .before .before .before .before .before .before .before .before .before .before .before .before .before .if1 .left) in
     let short = edge-path-short (s .args .room .now) (s .args .words .now) (s .args .body) (a .0) (a .1) in
     let front = laid-front _ _ _ _ (c .before .before .before .before .before .before .before .before .before .before .before .before .edge-path .ensures .0) short in
-    let called = call-written (readable (s .args .room .now) (s .args .words .now) (s .args .reals .now)) (reach (s .args .room .now) 3 (s .args .faces .now) && reach (s .args .room .now) 6 (s .args .edges .now)) (edgesRefusal (decode (s .args .room .now) (s .args .words .now) (s .args .reals .now)) (s .args .body)) _ (edgeWalk (decode (s .args .room .now) (s .args .words .now) (s .args .reals .now)) (s .args .body)) _ _ _ _ _ (c .before .before .before .before .before .before .before .before .before .before .before .before .before .before .before .before .before .before .edges-refusal .ensures .0) (c .before .before .before .before .before .before .before .before .before .before .before .before .before .before .before .if1 .left) (edge-list (s .args .room .now) (s .args .words .now) (s .args .reals .now) (s .args .body)) (rw front at (c .before .before .before .before .write-walk .ensures .0)) in
+    let called = call-written (readable (s .args .room .now) (s .args .words .now) (s .args .reals .now)) (reach (s .args .room .now) 3 (s .args .faces .now) && reach (s .args .room .now) 6 (s .args .edges .now)) (edgesRefusal (decode (s .args .room .now) (s .args .words .now) (s .args .reals .now)) (s .args .body)) _ (edgeWalk (decode (s .args .room .now) (s .args .words .now) (s .args .reals .now)) (s .args .body)) _ _ _ _ _ (c .before .before .before .before .before .before .before .before .before .before .before .before .before .before .before .before .before .before .edges-refusal .ensures .0) (c .before .before .before .before .before .before .before .before .before .before .before .before .before .before .before .if1 .left) (edge-list (s .args .room .now) (s .args .words .now) (s .args .reals .now) (s .args .body)) (wrote-along (s .args .room .now) (s .args .words .now) front (c .before .before .before .before .write-walk .ensures .0)) in
     (called .count, (called .list, (called .code, (zeros-on (s .args .faces .now) (c .before .before .before .before .before .before .before .before .before .before .before .before .before .before .before .before .before .before .edges-refusal .last .1 .1 .1 .1 .1 .0) _ (zeros-on (s .args .faces .now) (c .before .before .before .before .before .before .before .before .before .before .before .before .before .before .before .before .before .before .before .before .before .before .before .before .before .before .clear .last .0) _ (c .before .before .before .before .before .before .before .before .before .before .before .before .before .before .before .before .before .before .before .before .before .before .before .before .before .before .clear .ensures) (c .before .before .before .before .before .before .before .before .before .before .before .before .before .before .before .before .before .before .edges-refusal .ensures .1)) (c .before .before .before .before .before .before .before .before .before .before .before .before .edge-path .ensures .1), zeros-on (s .args .edges .now) (c .before .before .before .before .before .before .before .before .before .before .before .before .before .before .before .before .before .before .before .before .before .before .clear2 .last .0) _ (c .before .before .before .before .before .before .before .before .before .before .before .before .before .before .before .before .before .before .before .before .before .before .clear2 .ensures) (c .before .before .before .before .write-walk .ensures .1)))))
 
 pub write-edges-spec : {M : Type 1} → statement M

@@ -1,6 +1,7 @@
 -- `walks::walks::write_faces` meets its contract. Assumes nothing.
 use mathlib.Core.Path.{sym, ap, _∙_}
-use native.Mathlib.Omega.{arith}
+use native.Mathlib.Nat.{le-trans}
+use lib.Dec.{lit≤}
 use borrow.Author.Needs.{needs}
 use lib.ListN.{length}
 use lib.Seq.{length-take-le}
@@ -10,7 +11,7 @@ use Rattle.model.specs.Readable.{readable}
 use Rattle.paths.specs.Paths.{faceList}
 use Rattle.paths.specs.Laws.{laid-short, laid-front, sources-front, face-path-short, face-sources}
 use Rattle.walks.specs.Calls.{reach, facesNumber, facesHanded}
-use Rattle.walks.specs.Laws.{face-list, faces-refusal, accepted-faces, call-refused, call-written, zeros-on, zeros-same}
+use Rattle.walks.specs.Laws.{face-list, faces-refusal, accepted-faces, call-refused, call-written, zeros-on, zeros-same, wrote-along, path-fits}
 use Rattle.walks.proofs.walks.write_faces.Statement.{statement}
 use Rattle.walks.proofs.walks.write_faces.Tie as tie
 
@@ -59,7 +60,7 @@ write-walk-requires c κs =
     let a = accepted-faces (s .args .room .now) (s .args .words .now) (s .args .reals .now) (s .args .body) (reach (s .args .room .now) 3 (s .args .faces .now)) (sym (c .before .before .before .before .before .before .before .before .faces-refusal .ensures) ∙ c .before .before .before .before .before .before .before .if1 .left) in
     let short = face-path-short (s .args .room .now) (s .args .words .now) (s .args .body) (a .0) (a .1) in
     let front = laid-front _ _ _ _ (c .before .before .before .before .before .face-path .ensures) short in
-    (a .0, (sources-front (s .args .room .now) (s .args .words .now) _ _ _ _ (face-sources (s .args .room .now) (s .args .words .now) (s .args .body) (a .0) (a .1)) (c .before .before .before .before .before .face-path .ensures) short, (omega (arith, ap length front), zeros-same (s .args .faces .now) _ (c .before .before .before .before .before .before .before .before .before .before .before .clear .ensures))))
+    (a .0, (sources-front (s .args .room .now) (s .args .words .now) _ _ _ _ (face-sources (s .args .room .now) (s .args .words .now) (s .args .body) (a .0) (a .1)) (c .before .before .before .before .before .face-path .ensures) short, (path-fits front (le-trans short (lit≤ tt)), zeros-same (s .args .faces .now) _ (c .before .before .before .before .before .before .before .before .before .before .before .clear .ensures))))
 
 same-length-2 : tie.Need-same-length-2
 same-length-2 c = search needs
@@ -74,7 +75,7 @@ returns-2 c =
     let a = accepted-faces (s .args .room .now) (s .args .words .now) (s .args .reals .now) (s .args .body) (reach (s .args .room .now) 3 (s .args .faces .now)) (sym (c .before .before .before .before .before .before .before .before .before .before .before .before .before .faces-refusal .ensures) ∙ c .before .before .before .before .before .before .before .before .before .before .before .before .if1 .left) in
     let short = face-path-short (s .args .room .now) (s .args .words .now) (s .args .body) (a .0) (a .1) in
     let front = laid-front _ _ _ _ (c .before .before .before .before .before .before .before .before .before .before .face-path .ensures) short in
-    let called = call-written (readable (s .args .room .now) (s .args .words .now) (s .args .reals .now)) (reach (s .args .room .now) 3 (s .args .faces .now)) (facesRefusal (decode (s .args .room .now) (s .args .words .now) (s .args .reals .now)) (s .args .body)) _ (faceWalk (decode (s .args .room .now) (s .args .words .now) (s .args .reals .now)) (s .args .body)) _ _ _ _ _ (c .before .before .before .before .before .before .before .before .before .before .before .before .before .faces-refusal .ensures) (c .before .before .before .before .before .before .before .before .before .before .before .before .if1 .left) (face-list (s .args .room .now) (s .args .words .now) (s .args .reals .now) (s .args .body)) (rw front at (c .before .before .before .before .write-walk .ensures .0)) in
+    let called = call-written (readable (s .args .room .now) (s .args .words .now) (s .args .reals .now)) (reach (s .args .room .now) 3 (s .args .faces .now)) (facesRefusal (decode (s .args .room .now) (s .args .words .now) (s .args .reals .now)) (s .args .body)) _ (faceWalk (decode (s .args .room .now) (s .args .words .now) (s .args .reals .now)) (s .args .body)) _ _ _ _ _ (c .before .before .before .before .before .before .before .before .before .before .before .before .before .faces-refusal .ensures) (c .before .before .before .before .before .before .before .before .before .before .before .before .if1 .left) (face-list (s .args .room .now) (s .args .words .now) (s .args .reals .now) (s .args .body)) (wrote-along (s .args .room .now) (s .args .words .now) front (c .before .before .before .before .write-walk .ensures .0)) in
     (called .count, (called .list, (called .code, zeros-on (s .args .faces .now) (c .before .before .before .before .before .before .before .before .before .before .before .before .before .before .before .before .clear .last .0) _ (c .before .before .before .before .before .before .before .before .before .before .before .before .before .before .before .before .clear .ensures) (c .before .before .before .before .write-walk .ensures .1))))
 
 pub write-faces-spec : {M : Type 1} → statement M

@@ -1,7 +1,8 @@
 -- `walks::walks::write_vertices` meets its contract. Assumes nothing.
 use mathlib.Core.Path.{sym, ap, _∙_}
 use mathlib.Core.Bool.{_&&_}
-use native.Mathlib.Omega.{arith}
+use native.Mathlib.Nat.{le-trans}
+use lib.Dec.{lit≤}
 use borrow.Author.Needs.{needs}
 use lib.ListN.{length, length-replicate}
 use lib.Seq.{length-take-le}
@@ -10,7 +11,7 @@ use Rattle.model.specs.Decode.{decode}
 use Rattle.model.specs.Readable.{readable}
 use Rattle.paths.specs.Laws.{laid-short, laid-front, sources-front, vertex-path-short, vertex-sources}
 use Rattle.walks.specs.Calls.{reach, verticesNumber, verticesHanded}
-use Rattle.walks.specs.Laws.{vertex-list, vertices-refusal, accepted-vertices, call-refused, call-written, zeros-on, zeros-same, marked-zeros}
+use Rattle.walks.specs.Laws.{vertex-list, vertices-refusal, accepted-vertices, call-refused, call-written, zeros-on, zeros-same, wrote-along, path-fits, marked-zeros}
 use Rattle.walks.proofs.walks.write_vertices.Statement.{statement}
 use Rattle.walks.proofs.walks.write_vertices.Tie as tie
 
@@ -80,7 +81,7 @@ write-walk-requires c κs =
     let a = accepted-vertices (s .args .room .now) (s .args .words .now) (s .args .reals .now) (s .args .body) (reach (s .args .room .now) 3 (s .args .faces .now) && reach (s .args .room .now) 6 (s .args .edges .now) && reach (s .args .room .now) 7 (s .args .vertices .now)) (sym (c .before .before .before .before .before .before .before .before .before .before .before .before .before .before .before .before .vertices-refusal .ensures .0) ∙ c .before .before .before .before .before .before .before .before .before .before .before .before .before .if1 .left) in
     let short = vertex-path-short (s .args .room .now) (s .args .words .now) (s .args .body) (a .0) (a .1) in
     let front = laid-front _ _ _ _ (c .before .before .before .before .before .before .before .before .before .vertex-path .ensures .0) short in
-    (a .0, (sources-front (s .args .room .now) (s .args .words .now) _ _ _ _ (vertex-sources (s .args .room .now) (s .args .words .now) (s .args .body) (a .0) (a .1)) (c .before .before .before .before .before .before .before .before .before .vertex-path .ensures .0) short, (omega (arith, ap length front), zeros-same (s .args .vertices .now) _ (c .before .before .before .before .before .before .before .before .before .before .before .before .before .before .before .before .before .before .before .before .clear3 .ensures))))
+    (a .0, (sources-front (s .args .room .now) (s .args .words .now) _ _ _ _ (vertex-sources (s .args .room .now) (s .args .words .now) (s .args .body) (a .0) (a .1)) (c .before .before .before .before .before .before .before .before .before .vertex-path .ensures .0) short, (path-fits front (le-trans short (lit≤ tt)), zeros-same (s .args .vertices .now) _ (c .before .before .before .before .before .before .before .before .before .before .before .before .before .before .before .before .before .before .before .before .clear3 .ensures))))
 
 same-length-4 : tie.Need-same-length-4
 same-length-4 c =
@@ -103,7 +104,7 @@ returns-2 c =
     let a = accepted-vertices (s .args .room .now) (s .args .words .now) (s .args .reals .now) (s .args .body) (reach (s .args .room .now) 3 (s .args .faces .now) && reach (s .args .room .now) 6 (s .args .edges .now) && reach (s .args .room .now) 7 (s .args .vertices .now)) (sym (c .before .before .before .before .before .before .before .before .before .before .before .before .before .before .before .before .before .before .before .before .before .vertices-refusal .ensures .0) ∙ c .before .before .before .before .before .before .before .before .before .before .before .before .before .before .before .before .before .before .if1 .left) in
     let short = vertex-path-short (s .args .room .now) (s .args .words .now) (s .args .body) (a .0) (a .1) in
     let front = laid-front _ _ _ _ (c .before .before .before .before .before .before .before .before .before .before .before .before .before .before .vertex-path .ensures .0) short in
-    let called = call-written (readable (s .args .room .now) (s .args .words .now) (s .args .reals .now)) (reach (s .args .room .now) 3 (s .args .faces .now) && reach (s .args .room .now) 6 (s .args .edges .now) && reach (s .args .room .now) 7 (s .args .vertices .now)) (verticesRefusal (decode (s .args .room .now) (s .args .words .now) (s .args .reals .now)) (s .args .body)) _ (vertexWalk (decode (s .args .room .now) (s .args .words .now) (s .args .reals .now)) (s .args .body)) _ _ _ _ _ (c .before .before .before .before .before .before .before .before .before .before .before .before .before .before .before .before .before .before .before .before .before .vertices-refusal .ensures .0) (c .before .before .before .before .before .before .before .before .before .before .before .before .before .before .before .before .before .before .if1 .left) (vertex-list (s .args .room .now) (s .args .words .now) (s .args .reals .now) (s .args .body)) (rw front at (c .before .before .before .before .write-walk .ensures .0)) in
+    let called = call-written (readable (s .args .room .now) (s .args .words .now) (s .args .reals .now)) (reach (s .args .room .now) 3 (s .args .faces .now) && reach (s .args .room .now) 6 (s .args .edges .now) && reach (s .args .room .now) 7 (s .args .vertices .now)) (verticesRefusal (decode (s .args .room .now) (s .args .words .now) (s .args .reals .now)) (s .args .body)) _ (vertexWalk (decode (s .args .room .now) (s .args .words .now) (s .args .reals .now)) (s .args .body)) _ _ _ _ _ (c .before .before .before .before .before .before .before .before .before .before .before .before .before .before .before .before .before .before .before .before .before .vertices-refusal .ensures .0) (c .before .before .before .before .before .before .before .before .before .before .before .before .before .before .before .before .before .before .if1 .left) (vertex-list (s .args .room .now) (s .args .words .now) (s .args .reals .now) (s .args .body)) (wrote-along (s .args .room .now) (s .args .words .now) front (c .before .before .before .before .write-walk .ensures .0)) in
     (called .count, (called .list, (called .code, (zeros-on (s .args .faces .now) (c .before .before .before .before .before .before .before .before .before .before .before .before .before .before .before .before .before .before .before .before .before .vertices-refusal .last .1 .1 .1 .1 .1 .0) _ (zeros-on (s .args .faces .now) (c .before .before .before .before .before .before .before .before .before .before .before .before .before .before .before .before .before .before .before .before .before .before .before .before .before .before .before .before .before .before .before .before .before .clear .last .0) _ (c .before .before .before .before .before .before .before .before .before .before .before .before .before .before .before .before .before .before .before .before .before .before .before .before .before .before .before .before .before .before .before .before .before .clear .ensures) (c .before .before .before .before .before .before .before .before .before .before .before .before .before .before .before .before .before .before .before .before .before .vertices-refusal .ensures .1)) (c .before .before .before .before .before .before .before .before .before .before .before .before .before .before .vertex-path .ensures .1 .0), (zeros-on (s .args .edges .now) (c .before .before .before .before .before .before .before .before .before .before .before .before .before .before .before .before .before .before .before .before .before .before .before .before .before .before .before .before .before .clear2 .last .0) _ (c .before .before .before .before .before .before .before .before .before .before .before .before .before .before .before .before .before .before .before .before .before .before .before .before .before .before .before .before .before .clear2 .ensures) (c .before .before .before .before .before .before .before .before .before .before .before .before .before .before .vertex-path .ensures .1 .1), zeros-on (s .args .vertices .now) (c .before .before .before .before .before .before .before .before .before .before .before .before .before .before .before .before .before .before .before .before .before .before .before .before .before .clear3 .last .0) _ (c .before .before .before .before .before .before .before .before .before .before .before .before .before .before .before .before .before .before .before .before .before .before .before .before .before .clear3 .ensures) (c .before .before .before .before .write-walk .ensures .1))))))
 
 pub write-vertices-spec : {M : Type 1} → statement M
