@@ -1,5 +1,7 @@
 -- `sets::set_shell` meets its contract. Assumes nothing.
+use mathlib.Core.Path.{refl}
 use borrow.Author.Needs.{needs}
+use Rattle.sets.proofs.Placed.{placed}
 use Rattle.sets.proofs.set_shell.Statement.{statement}
 use Rattle.sets.proofs.set_shell.Tie as tie
 
@@ -16,7 +18,9 @@ same-length-2 : tie.Need-same-length-2
 same-length-2 c = search needs
 
 returns : tie.Need-returns
-returns c = c .before .before .before .before .set-fields .ensures
+returns c =
+    let e = c .before .before .before .before .set-fields .ensures in
+    (e .0, (placed _ _ _ _ _ _ _ _ _ (e .1 .0) refl, e .1 .1))
 
 pub set-shell-spec : {M : Type 1} → statement M
 set-shell-spec =
