@@ -1,109 +1,65 @@
-// Why an edge is not split: the thirteen tests of euler.rs's `split_line_edge`, in 01's order, before anything is written.
-pub mod points;
-pub mod rooms;
-pub mod shells;
-
-use crate::points::cut_of;
-use crate::points::edge_tolerance;
-use crate::points::fraction_ok;
-use crate::points::point_refusal;
-use crate::rooms::capacity_fits;
-use crate::shells::shells_ok;
-use bounds::bounds_refusal;
-use bounds::ends::segment_at;
+// Where the edge is split: tests 1, 9 and 10.
 use bounds::refusals::then;
 use bounds::refusals::unless;
-use legible::readable;
-use listing::list;
-use uses::fins::fins_refusal;
-use uses::fins::pcurves_refusal;
+use bounds::segment::Segment;
+use bounds::segment::is_positive;
+use entity::records::tolerance_of;
+use geometry::tolerance::effective_tolerance;
+use model::layout::reals_of;
+use model::layout::words_of;
+use signs::apart;
+use uses::planes::Cut;
+use vectors::vector::Point3;
+use vectors::vector::is_finite;
 ghost use mathlib.Core.Path.{_≡_};
-ghost use Rattle.meaning.specs.Split.{splitRefusal};
+ghost use Prim.Native.Nat.{_<_};
+ghost use Rattle.model.specs.Layout.{word};
 ghost use Rattle.model.specs.Decode.{decode};
-ghost use Rattle.model.specs.Fit.{Fit};
-ghost use Rattle.cuts.specs.Rows.{limits, edgeRow, placeRow, roomRow, splitNumber};
+ghost use Rattle.model.specs.Fit.{Sized};
+ghost use Rattle.cuts.specs.Cuts.{fractionOk, along, cutOf, toleranceAt, pointTest};
 
-// Tests 1 to 8.
-fn edge_refusal(room: &[usize; 10], words: &[u32], reals: &[f64], edge: usize, fraction: f64) -> u32
-    requires { ⌜ Fit (now room) (now words) (now reals) ⌝ }
-    ensures { λ r. ⌜ r ≡ edgeRow (decode (now (room .entry)) (now (words .entry)) (now (reals .entry))) edge fraction ⌝ }
+// Test 1.
+pub fn fraction_ok(t: f64) -> bool
+    ensures { λ r. ⌜ r ≡ fractionOk t ⌝ }
 {
-    if !fraction_ok(fraction) {
-        return 1;
-    }
-    if words[6] as usize <= edge {
-        return 2;
-    }
-    let pcurves = pcurves_refusal(room, words, list(room, words, 7, edge));
-    then(pcurves, bounds_refusal(room, words, reals, edge))
+    is_finite(t) & (0.0 < t) & (t < 1.0)
 }
 
-// Tests 9 to 11, behind those.
-fn place_refusal(
-    room: &[usize; 10],
-    words: &[u32],
-    reals: &[f64],
-    edge: usize,
-    fraction: f64,
-) -> u32
-    requires { ⌜ Fit (now room) (now words) (now reals) ⌝ }
-    requires { ⌜ edgeRow (decode (now room) (now words) (now reals)) edge fraction ≡ 0 ⌝ }
-    ensures { λ r. ⌜ r ≡ placeRow (decode (now (room .entry)) (now (words .entry)) (now (reals .entry))) edge fraction ⌝ }
+// The parameter lo + (hi - lo)·fraction.
+fn parameter(segment: Segment, fraction: f64) -> f64
+    ensures { λ r. ⌜ r ≡ along segment fraction ⌝ }
 {
-    let segment = segment_at(room, words, reals, edge);
-    let cut = cut_of(segment, fraction, edge_tolerance(room, words, reals, edge));
-    let point = point_refusal(segment, cut.at, reals[0]);
-    let fins = list(room, words, 7, edge);
-    then(point, fins_refusal(room, words, reals, fins, edge, cut))
+    let lo = segment.lo();
+    lo + (segment.hi() - lo) * fraction
 }
 
-// Tests 12 and 13, behind those.
-fn room_refusal(room: &[usize; 10], words: &[u32], reals: &[f64], edge: usize, fraction: f64) -> u32
-    requires { ⌜ Fit (now room) (now words) (now reals) ⌝ }
-    requires { ⌜ edgeRow (decode (now room) (now words) (now reals)) edge fraction ≡ 0 ⌝ }
-    requires { ⌜ placeRow (decode (now room) (now words) (now reals)) edge fraction ≡ 0 ⌝ }
-    ensures { λ r. ⌜ r ≡ roomRow (limits (now (room .entry))) (decode (now (room .entry)) (now (words .entry)) (now (reals .entry))) edge ⌝ }
+pub fn cut_of(segment: Segment, fraction: f64, tolerance: f64) -> Cut
+    ensures { λ r. ⌜ r ≡ cutOf segment fraction tolerance ⌝ }
 {
-    let once = shells_ok(room, words, edge, false);
-    let fins = list(room, words, 7, edge);
-    let fit = capacity_fits(room, words, fins, edge);
-    then(unless(1, once), unless(8, fit))
+    Cut {
+        lo: segment.line.eval(segment.lo()),
+        hi: segment.line.eval(segment.hi()),
+        at: segment.line.eval(parameter(segment, fraction)),
+        tolerance,
+    }
 }
 
-// The thirteen tests, behind 9.
-fn tests_refusal(
-    room: &[usize; 10],
-    words: &[u32],
-    reals: &[f64],
-    edge: usize,
-    fraction: f64,
-) -> u32
-    requires { ⌜ Fit (now room) (now words) (now reals) ⌝ }
-    ensures { λ r. ⌜ r ≡ splitRefusal (limits (now (room .entry))) (decode (now (room .entry)) (now (words .entry)) (now (reals .entry))) edge fraction ⌝ }
+// The edge's tolerance, else the session's.
+pub fn edge_tolerance(room: &[usize; 10], words: &[u32], reals: &[f64], edge: usize) -> f64
+    requires { ⌜ Sized (now room) (now words) (now reals) ⌝ }
+    requires { ⌜ edge < word (now words) 6 ⌝ }
+    ensures { λ r. ⌜ r ≡ toleranceAt (decode (now (room .entry)) (now (words .entry)) (now (reals .entry))) edge ⌝ }
 {
-    let n = edge_refusal(room, words, reals, edge, fraction);
-    if n != 0 {
-        return n;
-    }
-    let n = place_refusal(room, words, reals, edge, fraction);
-    if n != 0 {
-        return n;
-    }
-    room_refusal(room, words, reals, edge, fraction)
+    let w = words_of(room, words, 6, edge);
+    let x = reals_of(room, reals, 6, edge);
+    effective_tolerance(tolerance_of(w[6], x[0]), reals[0])
 }
 
-// 9, then the thirteen tests: the refusal's number, or 0.
-pub fn split_refusal(
-    room: &[usize; 10],
-    words: &[u32],
-    reals: &[f64],
-    edge: usize,
-    fraction: f64,
-) -> u32
-    ensures { λ r. ⌜ r ≡ splitNumber (now (room .entry)) (now (words .entry)) (now (reals .entry)) edge fraction ⌝ }
+// Tests 9 and 10.
+pub fn point_refusal(segment: Segment, at: Point3, precision: f64) -> u32
+    ensures { λ r. ⌜ r ≡ pointTest segment at precision ⌝ }
 {
-    if !readable(room, words, reals) {
-        return 9;
-    }
-    tests_refusal(room, words, reals, edge, fraction)
+    let start = unless(4, is_positive(apart(at, segment.start, precision)));
+    let end = unless(4, is_positive(apart(at, segment.end, precision)));
+    then(unless(4, at.is_finite()), then(start, end))
 }

@@ -3,8 +3,8 @@
 pub mod point;
 
 use crate::point::write_floats;
-use cuts::split_refusal;
 use seams::write_split;
+use thirteen::split_refusal;
 ghost use mathlib.Core.Path.{_≡_};
 ghost use Rattle.splits.specs.After.{splitAnswer, splitWords, splitReals};
 

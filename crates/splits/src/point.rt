@@ -1,6 +1,6 @@
 // The new vertex's point, and the floats of the new records.
 use bounds::ends::segment_at;
-use cuts::points::cut_of;
+use cuts::cut_of;
 use model::layout::reals_of;
 use pieces::floats::put_floats;
 use vectors::vector::Point3;
