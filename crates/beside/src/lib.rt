@@ -1,5 +1,5 @@
 // New entries beside old ones: each list that names a fin or a wire edge of a split edge, written anew in its place.
-use edits::write::write_words;
+use writes::write::write_words;
 ghost use mathlib.Core.Path.{_≡_};
 ghost use Prim.Native.Nat.{_+_, _≤_, _<_};
 ghost use lib.ListN.{length};

@@ -1,15 +1,12 @@
 // Making an empty model, and the core of every insert and edit: fields and floats of one record, by its table
 // (model.rs, `Model::new`, `RawEditor`). `specs/Answers.antt` says what they answer and leave.
-pub mod put;
-pub mod write;
-
-use crate::put::put_new;
-use crate::put::put_reals;
-use crate::put::put_words;
-use crate::write::clear;
 use legible::lent;
 use legible::readable;
 use tested::precision_ok;
+use writes::put::put_new;
+use writes::put::put_reals;
+use writes::put::put_words;
+use writes::write::clear;
 ghost use mathlib.Core.Path.{_≡_};
 ghost use Prim.Native.Nat.{_<_};
 ghost use Rattle.edits.specs.Answers.{makeNumber, makeWords, makeReals, insertNumber, insertAnswer, insertWords, insertReals, editNumber, editWords, editReals};

@@ -1,6 +1,6 @@
 // The fins of an edge: what the writing reads of them, and the new ones.
-use edits::put::put_words;
 use model::layout::words_of;
+use writes::put::put_words;
 ghost use mathlib.Core.Path.{_≡_};
 ghost use Prim.Native.Nat.{_<_};
 ghost use lib.ListN.{length};

@@ -1,6 +1,6 @@
 // The floats of the new edge and the new vertex.
-use edits::put::put_reals;
 use vectors::vector::Point3;
+use writes::put::put_reals;
 ghost use mathlib.Core.Path.{_≡_};
 ghost use Prim.Native.Nat.{_<_, _≤_};
 ghost use lib.ListN.{length};

@@ -1,8 +1,8 @@
 // The two halves of the edge, the new vertex, and how many records there are. An edge's words are start tag, id, end tag, id,
 // curve tag, id, tolerance tag, then its fins.
-use edits::put::put_words;
-use edits::write::write_words;
 use model::layout::words_of;
+use writes::put::put_words;
+use writes::write::write_words;
 ghost use mathlib.Core.Path.{_≡_};
 ghost use Prim.Native.Nat.{_<_, _≤_};
 ghost use lib.ListN.{length};

@@ -1,6 +1,5 @@
 // The words of a split, written behind all its tests: the lists, the records, their counts. `specs/Written.antt` says what they
 // become.
-use edits::write::write_words;
 use listing::list;
 use pieces::fins::fin_words;
 use pieces::fins::put_fins;
@@ -10,6 +9,7 @@ use pieces::records::put_second;
 use pieces::records::put_vertex;
 use pieces::relist::put_loops;
 use pieces::relist::put_wires;
+use writes::write::write_words;
 ghost use mathlib.Core.Path.{_≡_};
 ghost use Prim.Native.Nat.{_<_};
 ghost use lib.ListN.{length};

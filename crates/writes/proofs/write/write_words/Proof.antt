@@ -1,4 +1,4 @@
--- `edits::write::write_words` meets its contract: a turn of the loop is a step of a copy. Assumes nothing.
+-- `writes::write::write_words` meets its contract: a turn of the loop is a step of a copy. Assumes nothing.
 use Prim.Native.Nat.{_≤_, _-_, _+_}
 use native.Mathlib.Numerals.{add-one}
 use native.Mathlib.Omega.{arith}
@@ -7,8 +7,8 @@ use mathlib.Core.List.{_++_}
 use lib.ListN.{length, getD, take, drop, set, length-set}
 use lib.Seq.{paste, paste-zero, paste-suc, take-length}
 use Rattle.frame.specs.Put.{over}
-use Rattle.edits.proofs.write.write_words.Statement.{statement}
-use Rattle.edits.proofs.write.write_words.Tie as tie
+use Rattle.writes.proofs.write.write_words.Statement.{statement}
+use Rattle.writes.proofs.write.write_words.Tie as tie
 
 abbrev Inv-loop : tie.InvT-loop
 Inv-loop w₀ at a j₀ w j = (j ≤ length a) × (length w ≡ length w₀) × (w ≡ paste w₀ at a j)

@@ -1,4 +1,4 @@
--- `edits::write::write_reals` meets its contract: a turn of the loop is a step of a copy. Assumes nothing.
+-- `writes::write::write_reals` meets its contract: a turn of the loop is a step of a copy. Assumes nothing.
 use Prim.Native.Nat.{suc, _≤_, _-_, _+_}
 use native.Mathlib.Numerals.{add-one}
 use native.Mathlib.Nat.{zero-add}
@@ -8,8 +8,8 @@ use mathlib.Core.List.{_++_, append-nil}
 use lib.ListN.{length, getD, drop, set, length-set, drop-of-length-le}
 use lib.Seq.{paste, paste-zero, paste-suc, take-length}
 use lib.Ieee.{nan}
-use Rattle.edits.proofs.write.write_reals.Statement.{statement}
-use Rattle.edits.proofs.write.write_reals.Tie as tie
+use Rattle.writes.proofs.write.write_reals.Statement.{statement}
+use Rattle.writes.proofs.write.write_reals.Tie as tie
 
 abbrev Inv-loop : tie.InvT-loop
 Inv-loop x₀ a j₀ x j = (j ≤ length a) × (length x ≡ length x₀) × (x ≡ paste x₀ 0 a j)

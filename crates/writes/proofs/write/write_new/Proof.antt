@@ -1,9 +1,9 @@
--- `edits::write::write_new` meets its contract. Assumes nothing.
+-- `writes::write::write_new` meets its contract. Assumes nothing.
 use mathlib.Core.Path.{ap, _∙_}
 use Rattle.frame.specs.Put.{over}
 use borrow.Author.Needs.{needs}
-use Rattle.edits.proofs.write.write_new.Statement.{statement}
-use Rattle.edits.proofs.write.write_new.Tie as tie
+use Rattle.writes.proofs.write.write_new.Statement.{statement}
+use Rattle.writes.proofs.write.write_new.Tie as tie
 
 clear-requires : tie.Need-clear-requires
 clear-requires c κs = search needs

@@ -1,4 +1,4 @@
--- `edits::put::put_new` meets its contract: the record lies within the memory. Assumes nothing.
+-- `writes::put::put_new` meets its contract: the record lies within the memory. Assumes nothing.
 use Prim.Native.Nat.{_+_, _-_}
 use native.Mathlib.Omega.{arith}
 use mathlib.Core.Path.{_≡_}
@@ -9,8 +9,8 @@ use Rattle.frame.specs.Put.{putWords, newWords}
 use Rattle.frame.specs.Over.{taken-back}
 use Rattle.frame.specs.Frame.{new-length}
 use borrow.Author.Needs.{needs}
-use Rattle.edits.proofs.put.put_new.Statement.{statement}
-use Rattle.edits.proofs.put.put_new.Tie as tie
+use Rattle.writes.proofs.put.put_new.Statement.{statement}
+use Rattle.writes.proofs.put.put_new.Tie as tie
 
 word-at-requires : tie.Need-word-at-requires
 word-at-requires c κs = let g = capacity-le (c .before .before .args .room .now) (c .before .before .pre .0) (c .before .before .args .k) (c .before .before .pre .1 .0 .table) in (c .before .before .pre .0, (c .before .before .pre .1 .0 .table, omega (arith, c .before .before .pre .1 .0 .slot)))

@@ -1,4 +1,4 @@
--- `edits::write::clear` meets its contract. Assumes nothing.
+-- `writes::write::clear` meets its contract. Assumes nothing.
 use Prim.Native.Nat.{_≤_, _-_}
 use native.Mathlib.Omega.{arith}
 use mathlib.Core.List.{_++_, append-nil}
@@ -7,8 +7,8 @@ use lib.ListN.{set, replicate, length-set, length, drop}
 use lib.Seq.{drop-length}
 use borrow.Author.Fill.{fill-none, fill-more}
 use denote.Ref.{now}
-use Rattle.edits.proofs.write.clear.Statement.{statement}
-use Rattle.edits.proofs.write.clear.Tie as tie
+use Rattle.writes.proofs.write.clear.Statement.{statement}
+use Rattle.writes.proofs.write.clear.Tie as tie
 
 abbrev Inv-loop : tie.InvT-loop
 Inv-loop w₀ j₀ w j = (j ≤ length w₀) × (length w ≡ length w₀) × (w ≡ replicate j 0 ++ drop j w₀)
