@@ -29,6 +29,10 @@ use Rattle.bounds.specs.Segment.{segmentAt, low, high, spanRefusal}
 use Rattle.bounds.specs.Ends.{carrierRefusal, endsRefusal}
 use Rattle.bounds.specs.Answers.{boundsNumber}
 
+-- a place of a slice whose length is known
+pub within : {n m : ℕ} (k : ℕ) → n ≡ m → k < m → k < n
+within k e h = subst (λ (z : ℕ). k < z) (sym e) h
+
 -- the used counts are there
 pub counts-there : (room w : List ℕ) (x : List Float) → Sized room w x → 10 ≤ length w
 counts-there room w x s = le-trans (before-tables 10 wordStrides room 10) (s .words)

@@ -1,11 +1,11 @@
 -- `bounds::ends::segment_at` meets its contract. Assumes nothing.
 use native.Mathlib.Omega.{arith}
 use mathlib.Core.Path.{_≡_, ap, _∙_}
+use lib.Dec.{lit<}
 use lib.ListN.{length}
 use Rattle.model.specs.Laws.{used-inside, words-length}
 use Rattle.bounds.specs.Segment.{segmentAt}
-use Rattle.bounds.specs.Laws.{ended}
-use borrow.Author.Needs.{needs}
+use Rattle.bounds.specs.Laws.{within, ended}
 use Rattle.bounds.proofs.ends.segment_at.Statement.{statement}
 use Rattle.bounds.proofs.ends.segment_at.Tie as tie
 
@@ -13,30 +13,30 @@ words-of-requires : tie.Need-words-of-requires
 words-of-requires c κs =
     let s = c .before .before in
     let k = ended (s .args .room .now) (s .args .words .now) (s .args .reals .now) (s .args .edge) (s .pre .1) in
-    (s .pre .0 .sized .small, used-inside (s .args .room .now) (s .args .words .now) (s .args .reals .now) 6 (s .args .edge) (s .pre .0 .sized) (search needs) (k .there) .0)
+    (s .pre .0 .sized .small, used-inside (s .args .room .now) (s .args .words .now) (s .args .reals .now) 6 (s .args .edge) (s .pre .0 .sized) (lit< tt) (k .there) .0)
 
 shared-slice-read-curve-found : tie.Need-shared-slice-read-curve-found
 shared-slice-read-curve-found c =
     let s = c .before .before .before .before in
     let k = ended (s .args .room .now) (s .args .words .now) (s .args .reals .now) (s .args .edge) (s .pre .1) in
-    let l : length (c .before .words-of .result .now) ≡ 16 = ap length (c .before .words-of .ensures) ∙ words-length (s .args .room .now) (s .args .words .now) 6 (s .args .edge) (used-inside (s .args .room .now) (s .args .words .now) (s .args .reals .now) 6 (s .args .edge) (s .pre .0 .sized) (search needs) (k .there) .0) in
-    omega arith
+    let l : length (c .before .words-of .result .now) ≡ 16 = ap length (c .before .words-of .ensures) ∙ words-length (s .args .room .now) (s .args .words .now) 6 (s .args .edge) (used-inside (s .args .room .now) (s .args .words .now) (s .args .reals .now) 6 (s .args .edge) (s .pre .0 .sized) (lit< tt) (k .there) .0) in
+    within 5 l (lit< tt)
 
 cast-curve-found : tie.Need-cast-curve-found
 cast-curve-found c = omega (arith, c .shared-slice-known3 .given 5)
 
 curve-found-requires : tie.Need-curve-found-requires
-curve-found-requires c κs = search needs
+curve-found-requires c κs = c .before .before .before .before .pre .0 .sized
 
 the-line-requires : tie.Need-the-line-requires
-the-line-requires c κs = search needs
+the-line-requires c κs = tt
 
 shared-slice-read-point-at : tie.Need-shared-slice-read-point-at
 shared-slice-read-point-at c =
     let s = c .before .before .before .before .before .before .before in
     let k = ended (s .args .room .now) (s .args .words .now) (s .args .reals .now) (s .args .edge) (s .pre .1) in
-    let l : length (c .before .before .before .before .words-of .result .now) ≡ 16 = ap length (c .before .before .before .before .words-of .ensures) ∙ words-length (s .args .room .now) (s .args .words .now) 6 (s .args .edge) (used-inside (s .args .room .now) (s .args .words .now) (s .args .reals .now) 6 (s .args .edge) (s .pre .0 .sized) (search needs) (k .there) .0) in
-    omega arith
+    let l : length (c .before .before .before .before .words-of .result .now) ≡ 16 = ap length (c .before .before .before .before .words-of .ensures) ∙ words-length (s .args .room .now) (s .args .words .now) 6 (s .args .edge) (used-inside (s .args .room .now) (s .args .words .now) (s .args .reals .now) 6 (s .args .edge) (s .pre .0 .sized) (lit< tt) (k .there) .0) in
+    within 1 l (lit< tt)
 
 cast-point-at : tie.Need-cast-point-at
 cast-point-at c = omega (arith, c .shared-slice-known4 .given 1)
@@ -51,8 +51,8 @@ shared-slice-read-point-at-2 : tie.Need-shared-slice-read-point-at-2
 shared-slice-read-point-at-2 c =
     let s = c .before .before .before .before .before .before .before .before .before in
     let k = ended (s .args .room .now) (s .args .words .now) (s .args .reals .now) (s .args .edge) (s .pre .1) in
-    let l : length (c .before .before .before .before .before .before .words-of .result .now) ≡ 16 = ap length (c .before .before .before .before .before .before .words-of .ensures) ∙ words-length (s .args .room .now) (s .args .words .now) 6 (s .args .edge) (used-inside (s .args .room .now) (s .args .words .now) (s .args .reals .now) 6 (s .args .edge) (s .pre .0 .sized) (search needs) (k .there) .0) in
-    omega arith
+    let l : length (c .before .before .before .before .before .before .words-of .result .now) ≡ 16 = ap length (c .before .before .before .before .before .before .words-of .ensures) ∙ words-length (s .args .room .now) (s .args .words .now) 6 (s .args .edge) (used-inside (s .args .room .now) (s .args .words .now) (s .args .reals .now) 6 (s .args .edge) (s .pre .0 .sized) (lit< tt) (k .there) .0) in
+    within 3 l (lit< tt)
 
 cast-point-at-2 : tie.Need-cast-point-at-2
 cast-point-at-2 c = omega (arith, c .shared-slice-known5 .given 3)

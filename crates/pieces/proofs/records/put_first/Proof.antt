@@ -1,16 +1,22 @@
+use native.Mathlib.Nat.{le-of-lt, lt-of-lt-of-le}
+use mathlib.Core.Path.{refl}
+use lib.Dec.{lit<, lit≤}
+use Rattle.pieces.specs.Laws.{edge-inside}
 use Rattle.pieces.specs.Pieces.{firstPut}
 use borrow.Author.Needs.{needs}
 use Rattle.pieces.proofs.records.put_first.Statement.{statement}
 use Rattle.pieces.proofs.records.put_first.Tie as tie
 
 slice-read-t6 : tie.Need-slice-read-t6
-slice-read-t6 c = search needs
+slice-read-t6 c = lt-of-lt-of-le (lit< tt) (c .before .before .pre .0 .counts)
 
 slice-aggregate-put-words : tie.Need-slice-aggregate-put-words
-slice-aggregate-put-words c = search needs
+slice-aggregate-put-words c = refl
 
 put-words-requires : tie.Need-put-words-requires
-put-words-requires c κs = search needs
+put-words-requires c κs =
+    let s = c .before .before .before .before in
+    (s .pre .0 .small, (edge-inside (s .args .room .now) (s .args .words .now) 0 (s .pre .0) (s .args .edge) (le-of-lt (s .pre .1)), lit≤ tt))
 
 same-length : tie.Need-same-length
 same-length c = search needs

@@ -5,26 +5,30 @@ use Rattle.pieces.specs.Pieces.{secondPut, secondFields}
 use Rattle.frame.specs.Put.{over, putWords}
 use Rattle.model.specs.Layout.{word, wordsOf}
 use lib.ListN.{length}
-use mathlib.Core.Path.{ap, _∙_}
+use mathlib.Core.Path.{sym, ap, _∙_}
+use native.Mathlib.Nat.{le-refl, le-of-lt, lt-of-lt-of-le}
+use lib.Dec.{lit<}
 use native.Mathlib.Omega.{arith}
 use borrow.Author.Needs.{needs}
 use Rattle.pieces.proofs.records.put_second.Statement.{statement}
 use Rattle.pieces.proofs.records.put_second.Tie as tie
 
 slice-read-new : tie.Need-slice-read-new
-slice-read-new c = search needs
+slice-read-new c = lt-of-lt-of-le (lit< tt) (c .before .before .pre .0 .counts)
 
 cast-new : tie.Need-cast-new
 cast-new c = search needs
 
 slice-read-vertex : tie.Need-slice-read-vertex
-slice-read-vertex c = search needs
+slice-read-vertex c = lt-of-lt-of-le (lit< tt) (c .before .before .before .pre .0 .counts)
 
 slice-read-first : tie.Need-slice-read-first
-slice-read-first c = search needs
+slice-read-first c = lt-of-lt-of-le (lit< tt) (c .before .before .before .before .pre .0 .counts)
 
 words-of-requires : tie.Need-words-of-requires
-words-of-requires c κs = search needs
+words-of-requires c κs =
+    let s = c .before .before .before .before .before in
+    (s .pre .0 .small, edge-inside (s .args .room .now) (s .args .words .now) (s .args .n) (s .pre .0) (s .args .edge) (le-of-lt (s .pre .1)))
 
 cast-second-room : tie.Need-cast-second-room
 cast-second-room c = search needs
@@ -32,7 +36,7 @@ cast-second-room c = search needs
 second-room-requires : tie.Need-second-room-requires
 second-room-requires c κs =
     let s = c .before .before .before .before .before .before in
-    let n = ap length (c .words-of .ensures) ∙ edge-long (s .args .room .now) (s .args .words .now) (s .args .n) (s .pre .0) (s .args .edge) (omega (arith, s .pre .1)) in
+    let n = ap length (c .words-of .ensures) ∙ edge-long (s .args .room .now) (s .args .words .now) (s .args .n) (s .pre .0) (s .args .edge) (le-of-lt (s .pre .1)) in
     let f = s .pre .0 .fins in
     let m = s .pre .0 .most-fins in
     (n, omega arith)
@@ -48,7 +52,7 @@ slice-aggregate-put-words c =
     let s = c .before .before .before .before .before .before .before .before .before in
     let e = ap (λ l. take (8 + s .args .n) l) (c .before .before .second-room .ensures) ∙ second-part _ _ _ (s .args .n) (s .pre .0 .few) in
     let l = ap length e ∙ second-long _ _ _ (s .args .n) in
-    omega arith
+    sym l
 
 put-words-requires : tie.Need-put-words-requires
 put-words-requires c κs =
@@ -56,7 +60,7 @@ put-words-requires c κs =
     let e = ap (λ l. take (8 + s .args .n) l) (c .before .before .second-room .ensures) ∙ second-part _ _ _ (s .args .n) (s .pre .0 .few) in
     let l = ap length e ∙ second-long _ _ _ (s .args .n) in
     let f = s .pre .0 .few in
-    (s .pre .0 .small, (edge-inside (s .args .room .now) (s .args .words .now) (s .args .n) (s .pre .0) (word (s .args .words .now) 6) (omega arith), omega arith))
+    (s .pre .0 .small, (edge-inside (s .args .room .now) (s .args .words .now) (s .args .n) (s .pre .0) (word (s .args .words .now) 6) (le-refl _), omega arith))
 
 same-length : tie.Need-same-length
 same-length c = search needs
