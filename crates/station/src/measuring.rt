@@ -5,7 +5,7 @@ ghost use Rattle.checker.specs.Calls.{asked, checkAnswer, checkWords, fitAnswer
 ghost use Rattle.boxes.specs.Answers.{boxAnswer};
 ghost use Rattle.volumes.specs.Answers.{volumeAnswer};
 ghost use Rattle.splits.specs.After.{splitAnswer, splitWords, splitReals};
-ghost use Rattle.measures.specs.Measured.{cornersNumber, cornersSlots, amountNumber, amountSlots, madeNumber, madeSlots, checkedNumber, checkedSlots, sawableNumber, sawableSlots, wanted};
+ghost use Rattle.handed.specs.Handed.{cornersNumber, cornersSlots, amountNumber, amountSlots, madeNumber, madeSlots, checkedNumber, checkedSlots, sawableNumber, sawableSlots, wanted};
 
 // The two corners of a body's box; `faces`, `edges` and `vertices` are seen marks.
 #[no_mangle]

@@ -1,8 +1,8 @@
--- `measures::put_fit` meets its contract. Assumes nothing.
+-- `handed::put_fit` meets its contract. Assumes nothing.
 use mathlib.Core.Path.{refl}
 use borrow.Author.Needs.{needs}
-use Rattle.measures.proofs.put_fit.Statement.{statement}
-use Rattle.measures.proofs.put_fit.Tie as tie
+use Rattle.handed.proofs.put_fit.Statement.{statement}
+use Rattle.handed.proofs.put_fit.Tie as tie
 
 enum-known-answer : tie.Need-enum-known-answer
 enum-known-answer c = search needs
