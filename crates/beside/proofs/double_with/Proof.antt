@@ -10,16 +10,6 @@ use Rattle.model.specs.Decode.{listAt}
 use Rattle.frame.specs.Put.{over}
 use Rattle.beside.specs.Beside.{entriesFor, doubled}
 use Rattle.beside.specs.Laws.{head-store, copy-length, copy-fits, copied, copied-length}
-use Prim.Native.Nat.{_≤_, _+_, _-_}
-use native.Mathlib.Omega.{arith}
-use mathlib.Core.Path.{_≡_, ap, _∙_}
-use lib.ListN.{length, set}
-use Rattle.meaning.specs.Lists.{joined}
-use Rattle.model.specs.Layout.{word}
-use Rattle.model.specs.Decode.{listAt}
-use Rattle.frame.specs.Put.{over}
-use Rattle.beside.specs.Beside.{entriesFor, doubled}
-use Rattle.beside.specs.Laws.{head-store, copy-length, copy-fits, copied, copied-length}
 use Rattle.beside.proofs.double_with.Statement.{statement}
 use Rattle.beside.proofs.double_with.Tie as tie
 

@@ -5,30 +5,6 @@ use mathlib.Core.Path.{_≡_}
 use lib.ListN.{length, drop}
 use Rattle.meaning.specs.Lists.{place}
 use Rattle.beside.specs.Laws.{place-hit, place-miss, place-end}
-use Prim.Native.Nat.{_+_, _≤_, _-_}
-use native.Mathlib.Omega.{arith}
-use mathlib.Core.Path.{_≡_}
-use lib.ListN.{length, drop}
-use Rattle.meaning.specs.Lists.{place}
-use Rattle.beside.specs.Laws.{place-hit, place-miss, place-end}
-use Prim.Native.Nat.{_+_, _≤_, _-_}
-use native.Mathlib.Omega.{arith}
-use mathlib.Core.Path.{_≡_}
-use lib.ListN.{length, drop}
-use Rattle.meaning.specs.Lists.{place}
-use Rattle.beside.specs.Laws.{place-hit, place-miss, place-end}
-use Prim.Native.Nat.{_+_, _≤_, _-_}
-use native.Mathlib.Omega.{arith}
-use mathlib.Core.Path.{_≡_}
-use lib.ListN.{length, drop}
-use Rattle.meaning.specs.Lists.{place}
-use Rattle.beside.specs.Laws.{place-hit, place-miss, place-end}
-use Prim.Native.Nat.{_+_, _≤_, _-_}
-use native.Mathlib.Omega.{arith}
-use mathlib.Core.Path.{_≡_}
-use lib.ListN.{length, drop}
-use Rattle.meaning.specs.Lists.{place}
-use Rattle.beside.specs.Laws.{place-hit, place-miss, place-end}
 use Rattle.beside.proofs.place_of.Statement.{statement}
 use Rattle.beside.proofs.place_of.Tie as tie
 

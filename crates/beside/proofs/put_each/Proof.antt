@@ -5,22 +5,6 @@ use lib.ListN.{length}
 use Rattle.beside.specs.Beside.{entriesFor}
 use Rattle.beside.specs.Facts.{Written}
 use Rattle.beside.specs.Laws.{written-none, written-room, written-turn, written-all}
-use Prim.Native.Nat.{_-_}
-use native.Mathlib.Omega.{arith}
-use lib.ListN.{length}
-use Rattle.beside.specs.Beside.{entriesFor}
-use Rattle.beside.specs.Facts.{Written}
-use Rattle.beside.specs.Laws.{written-none, written-room, written-turn, written-all}
-use Prim.Native.Nat.{_-_}
-use native.Mathlib.Omega.{arith}
-use lib.ListN.{length}
-use Rattle.beside.specs.Beside.{entriesFor}
-use Rattle.beside.specs.Facts.{Written}
-use Rattle.beside.specs.Laws.{written-none, written-room, written-turn, written-all}
-use Prim.Native.Nat.{_-_}
-use native.Mathlib.Omega.{arith}
-use lib.ListN.{length}
-use Rattle.beside.specs.Beside.{entriesFor}
 use Rattle.beside.proofs.put_each.Statement.{statement}
 use Rattle.beside.proofs.put_each.Tie as tie
 

@@ -6,24 +6,6 @@ use mathlib.Core.Path.{_≡_, refl, sym}
 use lib.ListN.{length, length-set}
 use Rattle.meaning.specs.Lists.{place}
 use Rattle.beside.specs.Laws.{one-store, two-stores, not-old, not-own, after-it, before-it}
-use Prim.Native.Nat.{_<_}
-use native.Mathlib.Omega.{arith}
-use mathlib.Core.Path.{_≡_, refl, sym}
-use lib.ListN.{length, length-set}
-use Rattle.meaning.specs.Lists.{place}
-use Rattle.beside.specs.Laws.{one-store, two-stores, not-old, not-own, after-it, before-it}
-use Prim.Native.Nat.{_<_}
-use native.Mathlib.Omega.{arith}
-use mathlib.Core.Path.{_≡_, refl, sym}
-use lib.ListN.{length, length-set}
-use Rattle.meaning.specs.Lists.{place}
-use Rattle.beside.specs.Laws.{one-store, two-stores, not-old, not-own, after-it, before-it}
-use Prim.Native.Nat.{_<_}
-use native.Mathlib.Omega.{arith}
-use mathlib.Core.Path.{_≡_, refl, sym}
-use lib.ListN.{length, length-set}
-use Rattle.meaning.specs.Lists.{place}
-use Rattle.beside.specs.Laws.{one-store, two-stores, not-old, not-own, after-it, before-it}
 use Rattle.beside.proofs.put_for.Statement.{statement}
 use Rattle.beside.proofs.put_for.Tie as tie
 

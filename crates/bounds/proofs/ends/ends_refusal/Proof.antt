@@ -10,22 +10,6 @@ use Rattle.model.specs.Layout.{word}
 use Rattle.model.specs.Decode.{decode}
 use Rattle.model.specs.Laws.{used-inside, words-length}
 use Rattle.bounds.specs.Laws.{counts-there, ends-tests}
-use borrow.Author.Needs.{needs}
-use lib.Dec.{ltb}
-use lib.ListN.{length}
-use borrow.Author.Tests.{lt-ltb, le-ltb}
-use Rattle.model.specs.Layout.{word}
-use Rattle.model.specs.Decode.{decode}
-use Rattle.model.specs.Laws.{used-inside, words-length}
-use Rattle.bounds.specs.Laws.{counts-there, ends-tests}
-use borrow.Author.Needs.{needs}
-use lib.Dec.{ltb}
-use lib.ListN.{length}
-use borrow.Author.Tests.{lt-ltb, le-ltb}
-use Rattle.model.specs.Layout.{word}
-use Rattle.model.specs.Decode.{decode}
-use Rattle.model.specs.Laws.{used-inside, words-length}
-use Rattle.bounds.specs.Laws.{counts-there, ends-tests}
 use Rattle.bounds.proofs.ends.ends_refusal.Statement.{statement}
 use Rattle.bounds.proofs.ends.ends_refusal.Tie as tie
 

@@ -9,15 +9,6 @@ use Rattle.frame.specs.Put.{putWords}
 use Rattle.frame.specs.Over.{taken-back}
 use Rattle.beside.specs.Beside.{entriesFor, doubled}
 use Rattle.halves.specs.Laws.{length-doubled}
-use Prim.Native.Nat.{_+_, _-_}
-use native.Mathlib.Omega.{arith}
-use mathlib.Core.Path.{_≡_, _∙_}
-use Rattle.model.specs.Layout.{wordStrides, word, wordAt, wordsOf}
-use Rattle.model.specs.Laws.{capacity-le, record-inside, words-length}
-use Rattle.frame.specs.Put.{putWords}
-use Rattle.frame.specs.Over.{taken-back}
-use Rattle.beside.specs.Beside.{entriesFor, doubled}
-use Rattle.halves.specs.Laws.{length-doubled}
 use Rattle.halves.proofs.passes.double_list.Statement.{statement}
 use Rattle.halves.proofs.passes.double_list.Tie as tie
 

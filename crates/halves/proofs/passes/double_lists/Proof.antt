@@ -7,14 +7,6 @@ use Rattle.model.specs.Layout.{wordsOf}
 use Rattle.model.specs.Laws.{capacity-le}
 use Rattle.halves.specs.Pass.{putAll, doubledAt}
 use Rattle.halves.specs.Laws.{pass-turn, pass-long, pass-next}
-use Prim.Native.Nat.{_+_, _≤_, _-_}
-use native.Mathlib.Omega.{arith}
-use mathlib.Core.Path.{_≡_, refl, ap, _∙_}
-use lib.ListN.{length}
-use Rattle.model.specs.Layout.{wordsOf}
-use Rattle.model.specs.Laws.{capacity-le}
-use Rattle.halves.specs.Pass.{putAll, doubledAt}
-use Rattle.halves.specs.Laws.{pass-turn, pass-long, pass-next}
 use Rattle.halves.proofs.passes.double_lists.Statement.{statement}
 use Rattle.halves.proofs.passes.double_lists.Tie as tie
 

@@ -10,13 +10,6 @@ use Rattle.model.specs.Layout.{word}
 use Rattle.entity.specs.Laws.{words-inside, words-whole}
 use Rattle.uses.specs.Uses.{pcurveTest}
 use Rattle.uses.specs.Laws.{counts-listed, unless-is}
-use lib.Dec.{eqb, ltb}
-use lib.ListN.{length}
-use borrow.Author.Tests.{lt-ltb, le-ltb}
-use Rattle.model.specs.Layout.{word}
-use Rattle.entity.specs.Laws.{words-inside, words-whole}
-use Rattle.uses.specs.Uses.{pcurveTest}
-use Rattle.uses.specs.Laws.{counts-listed, unless-is}
 use Rattle.uses.proofs.fins.pcurve_refusal.Statement.{statement}
 use Rattle.uses.proofs.fins.pcurve_refusal.Tie as tie
 

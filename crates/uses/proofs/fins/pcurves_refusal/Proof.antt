@@ -9,14 +9,6 @@ use Rattle.meaning.specs.Refuse.{firstOf}
 use Rattle.lists.specs.Tests.{firstOf-none}
 use Rattle.uses.specs.Uses.{pcurveTest}
 use Rattle.uses.specs.Laws.{firstOf-turn}
-use native.Mathlib.Omega.{arith}
-use mathlib.Core.Path.{_≡_, sym, ap, _∙_}
-use lib.ListN.{length, take}
-use lib.Seq.{take-all}
-use Rattle.meaning.specs.Refuse.{firstOf}
-use Rattle.lists.specs.Tests.{firstOf-none}
-use Rattle.uses.specs.Uses.{pcurveTest}
-use Rattle.uses.specs.Laws.{firstOf-turn}
 use Rattle.uses.proofs.fins.pcurves_refusal.Statement.{statement}
 use Rattle.uses.proofs.fins.pcurves_refusal.Tie as tie
 
