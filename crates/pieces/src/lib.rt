@@ -1,6 +1,4 @@
-// What a split writes: the lists that name its fins and its edge, new fins, an edge and a vertex. `specs/Pieces.antt` says
+// What a split writes: the lists that name its fins and its edge, and the new fins. `specs/Pieces.antt` says
 // what each step leaves.
 pub mod fins;
-pub mod floats;
-pub mod records;
 pub mod relist;

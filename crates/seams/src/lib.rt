@@ -1,12 +1,12 @@
 // The words of a split, written behind all its tests: the lists, the records, their counts. `specs/Written.antt` says what they
 // become.
+use added::records::put_counts;
+use added::records::put_first;
+use added::records::put_second;
+use added::records::put_vertex;
 use listing::list;
 use pieces::fins::fin_words;
 use pieces::fins::put_fins;
-use pieces::records::put_counts;
-use pieces::records::put_first;
-use pieces::records::put_second;
-use pieces::records::put_vertex;
 use pieces::relist::put_loops;
 use pieces::relist::put_wires;
 use writes::write::write_words;

@@ -1,8 +1,8 @@
 // The new vertex's point, and the floats of the new records.
+use added::floats::put_floats;
 use bounds::ends::segment_at;
 use cuts::cut_of;
 use model::layout::reals_of;
-use pieces::floats::put_floats;
 use vectors::vector::Point3;
 ghost use mathlib.Core.Path.{_≡_};
 ghost use Prim.Native.Nat.{_<_};

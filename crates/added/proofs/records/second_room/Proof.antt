@@ -1,8 +1,8 @@
 use Rattle.pieces.specs.Facts.{secondRoom}
 use mathlib.Core.Path.{refl}
 use borrow.Author.Needs.{needs}
-use Rattle.pieces.proofs.records.second_room.Statement.{statement}
-use Rattle.pieces.proofs.records.second_room.Tie as tie
+use Rattle.added.proofs.records.second_room.Statement.{statement}
+use Rattle.added.proofs.records.second_room.Tie as tie
 
 shared-slice-read-t6 : tie.Need-shared-slice-read-t6
 shared-slice-read-t6 c = search needs

@@ -10,8 +10,8 @@ use native.Mathlib.Nat.{le-refl, le-of-lt, lt-of-lt-of-le}
 use lib.Dec.{lit<}
 use native.Mathlib.Omega.{arith}
 use borrow.Author.Needs.{needs}
-use Rattle.pieces.proofs.records.put_second.Statement.{statement}
-use Rattle.pieces.proofs.records.put_second.Tie as tie
+use Rattle.added.proofs.records.put_second.Statement.{statement}
+use Rattle.added.proofs.records.put_second.Tie as tie
 
 slice-read-new : tie.Need-slice-read-new
 slice-read-new c = lt-of-lt-of-le (lit< tt) (c .before .before .pre .0 .counts)

@@ -1,11 +1,11 @@
 use mathlib.Core.List.{[], _∷_}
 use Rattle.pieces.specs.Pieces.{floatsPut}
 use Rattle.frame.specs.Put.{putReals}
 use mathlib.Core.Path.{refl, ap, _∙_}
 use native.Mathlib.Omega.{arith}
 use borrow.Author.Needs.{needs}
-use Rattle.pieces.proofs.floats.put_floats.Statement.{statement}
-use Rattle.pieces.proofs.floats.put_floats.Tie as tie
+use Rattle.added.proofs.floats.put_floats.Statement.{statement}
+use Rattle.added.proofs.floats.put_floats.Tie as tie
 
 slice-aggregate-put-reals : tie.Need-slice-aggregate-put-reals
 slice-aggregate-put-reals c = search needs

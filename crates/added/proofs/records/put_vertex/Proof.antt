@@ -1,16 +1,16 @@
 use mathlib.Core.List.{[], _∷_}
 use Rattle.frame.specs.Put.{putWords}
 use Rattle.model.specs.Layout.{word}
 use Rattle.pieces.specs.Laws.{edge-inside, edge-long, vertex-inside, vertex-whole}
 use Rattle.pieces.specs.Pieces.{vertexPut}
 use lib.ListN.{length}
 use mathlib.Core.Path.{refl, sym, ap, _∙_, subst}
 use Prim.Native.Nat.{ℕ, _<_}
 use native.Mathlib.Nat.{le-of-lt, lt-of-lt-of-le}
 use lib.Dec.{lit<, lit≤}
 use borrow.Author.Needs.{needs}
-use Rattle.pieces.proofs.records.put_vertex.Statement.{statement}
-use Rattle.pieces.proofs.records.put_vertex.Tie as tie
+use Rattle.added.proofs.records.put_vertex.Statement.{statement}
+use Rattle.added.proofs.records.put_vertex.Tie as tie
 
 slice-read-vertex : tie.Need-slice-read-vertex
 slice-read-vertex c = lt-of-lt-of-le (lit< tt) (c .before .before .pre .0 .counts)
