@@ -1,5 +1,5 @@
 // The walks. Each has two forms: `write_..` fills the front of the caller's list and returns how many ids it put there, and its promise
-// tells of the whole list; the form without `write` returns that front part.
+// tells of the whole list; the form without `write` (crate `views`) returns that front part.
 use crate::refusals::edges_refusal;
 use crate::refusals::faces_refusal;
 use crate::refusals::vertices_refusal;
@@ -76,23 +76,6 @@ pub fn write_faces(
     write_walk(room, words, &path[..n], faces, out, code)
 }
 
-pub fn body_faces<'a>(
-    room: &[usize; 10],
-    words: &[u32],
-    reals: &[f64],
-    body: usize,
-    faces: &mut [u8],
-    out: &'a mut [u32],
-    code: &mut u32,
-) -> &'a mut [u32]
-    ensures answer { λ r. ⌜ now r ≡ facesHanded (now (room .entry)) (now (words .entry)) (now (reals .entry)) body (now (faces .entry)) (now (out .entry)) ⌝ }
-    ensures code { λ _. ⌜ now (code .exit) ≡ facesNumber (now (room .entry)) (now (words .entry)) (now (reals .entry)) body (now (faces .entry)) (now (out .entry)) ⌝ }
-    ensures faces { λ _. ⌜ now (faces .exit) ≡ replicate (length (now (faces .entry))) 0 ⌝ }
-{
-    let n = write_faces(room, words, reals, body, faces, out, code);
-    &mut out[..n]
-}
-
 // The edges of a body: over its faces their loops' fins, then the wire edges of its shells. `faces` and `edges` are seen marks.
 pub fn write_edges(
     room: &[usize; 10],
@@ -121,25 +104,6 @@ pub fn write_edges(
     let mut path = [0u32; 8448];
     let n = edge_path(room, words, body, faces, &mut path);
     write_walk(room, words, &path[..n], edges, out, code)
-}
-
-pub fn body_edges<'a>(
-    room: &[usize; 10],
-    words: &[u32],
-    reals: &[f64],
-    body: usize,
-    faces: &mut [u8],
-    edges: &mut [u8],
-    out: &'a mut [u32],
-    code: &mut u32,
-) -> &'a mut [u32]
-    ensures answer { λ r. ⌜ now r ≡ edgesHanded (now (room .entry)) (now (words .entry)) (now (reals .entry)) body (now (faces .entry)) (now (edges .entry)) (now (out .entry)) ⌝ }
-    ensures code { λ _. ⌜ now (code .exit) ≡ edgesNumber (now (room .entry)) (now (words .entry)) (now (reals .entry)) body (now (faces .entry)) (now (edges .entry)) (now (out .entry)) ⌝ }
-    ensures faces { λ _. ⌜ now (faces .exit) ≡ replicate (length (now (faces .entry))) 0 ⌝ }
-    ensures edges { λ _. ⌜ now (edges .exit) ≡ replicate (length (now (edges .entry))) 0 ⌝ }
-{
-    let n = write_edges(room, words, reals, body, faces, edges, out, code);
-    &mut out[..n]
 }
 
 // The vertices of a body: over its edges start then end, then the acorn vertices of its shells.
@@ -173,25 +137,4 @@ pub fn write_vertices(
     let mut path = [0u32; 2304];
     let n = vertex_path(room, words, body, faces, edges, &mut path);
     write_walk(room, words, &path[..n], vertices, out, code)
-}
-
-pub fn body_vertices<'a>(
-    room: &[usize; 10],
-    words: &[u32],
-    reals: &[f64],
-    body: usize,
-    faces: &mut [u8],
-    edges: &mut [u8],
-    vertices: &mut [u8],
-    out: &'a mut [u32],
-    code: &mut u32,
-) -> &'a mut [u32]
-    ensures answer { λ r. ⌜ now r ≡ verticesHanded (now (room .entry)) (now (words .entry)) (now (reals .entry)) body (now (faces .entry)) (now (edges .entry)) (now (vertices .entry)) (now (out .entry)) ⌝ }
-    ensures code { λ _. ⌜ now (code .exit) ≡ verticesNumber (now (room .entry)) (now (words .entry)) (now (reals .entry)) body (now (faces .entry)) (now (edges .entry)) (now (vertices .entry)) (now (out .entry)) ⌝ }
-    ensures faces { λ _. ⌜ now (faces .exit) ≡ replicate (length (now (faces .entry))) 0 ⌝ }
-    ensures edges { λ _. ⌜ now (edges .exit) ≡ replicate (length (now (edges .entry))) 0 ⌝ }
-    ensures vertices { λ _. ⌜ now (vertices .exit) ≡ replicate (length (now (vertices .entry))) 0 ⌝ }
-{
-    let n = write_vertices(room, words, reals, body, faces, edges, vertices, out, code);
-    &mut out[..n]
 }

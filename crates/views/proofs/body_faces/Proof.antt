@@ -1,10 +1,10 @@
--- `walks::walks::body_faces` meets its contract. Assumes nothing.
+-- `views::body_faces` meets its contract. Assumes nothing.
 use mathlib.Core.Path.{sym, ap, _∙_}
 use borrow.Author.Needs.{needs}
 use lib.ListN.{length}
 use Rattle.walks.specs.Laws.{view}
-use Rattle.walks.proofs.walks.body_faces.Statement.{statement}
-use Rattle.walks.proofs.walks.body_faces.Tie as tie
+use Rattle.views.proofs.body_faces.Statement.{statement}
+use Rattle.views.proofs.body_faces.Tie as tie
 
 write-faces-requires : tie.Need-write-faces-requires
 write-faces-requires c κs = search needs

@@ -1,10 +1,10 @@
--- `walks::walks::body_vertices` meets its contract. Assumes nothing.
+-- `views::body_vertices` meets its contract. Assumes nothing.
 use mathlib.Core.Path.{sym, ap, _∙_}
 use borrow.Author.Needs.{needs}
 use lib.ListN.{length}
 use Rattle.walks.specs.Laws.{view}
-use Rattle.walks.proofs.walks.body_vertices.Statement.{statement}
-use Rattle.walks.proofs.walks.body_vertices.Tie as tie
+use Rattle.views.proofs.body_vertices.Statement.{statement}
+use Rattle.views.proofs.body_vertices.Tie as tie
 
 write-vertices-requires : tie.Need-write-vertices-requires
 write-vertices-requires c κs = search needs

@@ -1,10 +1,10 @@
--- `walks::walks::body_edges` meets its contract. Assumes nothing.
+-- `views::body_edges` meets its contract. Assumes nothing.
 use mathlib.Core.Path.{sym, ap, _∙_}
 use borrow.Author.Needs.{needs}
 use lib.ListN.{length}
 use Rattle.walks.specs.Laws.{view}
-use Rattle.walks.proofs.walks.body_edges.Statement.{statement}
-use Rattle.walks.proofs.walks.body_edges.Tie as tie
+use Rattle.views.proofs.body_edges.Statement.{statement}
+use Rattle.views.proofs.body_edges.Tie as tie
 
 write-edges-requires : tie.Need-write-edges-requires
 write-edges-requires c κs = search needs
