@@ -20,7 +20,7 @@ use Rattle.enclosure.specs.Value.{ONE, units, value, Holds, Real, Whole3
 use Rattle.enclosure.specs.Laws.Pairs.{plus, minus, In, over, under}
 use Rattle.enclosure.specs.Laws.Near.{own}
 use Rattle.enclosure.specs.Laws.Floats.{in-float}
-use Rattle.numbers.specs.Next.{nextUp, nextDown}
+use Rattle.steps.specs.Next.{nextUp, nextDown}
 use Rattle.enclosure.specs.Laws.Adjacent as Adjacent
 use Rattle.enclosure.specs.Laws.Sums.{in-add, in-sub, in-neg, in-point}
 use Rattle.enclosure.specs.Laws.Products.{in-mul}

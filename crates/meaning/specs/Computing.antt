@@ -1,7 +1,7 @@
 -- For evaluation: a line `unfolding computing` opens every definition of this crate and of those below, and the float operations of lib.Ieee.
 use Prim.Native.Nat.{ℕ}
 use lib.Ieee.{toBits, ofBits, add, sub, mul, div, neg, round, ofInt, isNan, lt, le, eq}
-use Rattle.numbers.specs.Next.{nextUp, nextDown}
+use Rattle.steps.specs.Next.{nextUp, nextDown}
 use Rattle.numbers.specs.Ops.{pointI, addI, subI, mulI, sqrI, signI}
 use Rattle.vectors.specs.Space.{finitePoint, minus, along, scaledV, dotV, crossV}
 use Rattle.ranges.specs.Ranges.{differenceI, pointI3, vectorI, dotI}

@@ -1,5 +1,3 @@
-pub mod Next
 pub mod Ops
 pub mod Worked
-pub mod Bits
 pub mod Unique

@@ -3,7 +3,7 @@
 use mathlib.Core.Bool.{Bool, true, false, cond, _&&_}
 use lib.IntN.{pos}
 use lib.Ieee.{Float, nan, inf, fin, binary64, isNan, add, sub, mul, neg, lt, le, eq}
-use Rattle.numbers.specs.Next.{nextUp, nextDown}
+use Rattle.steps.specs.Next.{nextUp, nextDown}
 use Rattle.numbers.specs.declared.Interval.{Interval}
 use Rattle.numbers.specs.declared.Sign.{Sign}
 use Rattle.numbers.specs.declared.Sign.the-variants.{Negative, Zero, Positive, Unresolved}

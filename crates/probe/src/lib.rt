@@ -286,8 +286,8 @@ fn clear(out: &mut [f64; 6]) {
 pub extern "C" fn brunskerl_probe(op: u32, x: &[f64; 12], out: &mut [f64; 6]) -> u32 {
     clear(out);
     match op {
-        0 => put(out, numbers::next_up(x[0])),
-        1 => put(out, numbers::next_down(x[0])),
+        0 => put(out, steps::next_up(x[0])),
+        1 => put(out, steps::next_down(x[0])),
         2..=7 => put_interval(out, interval_of(op, first_interval(x), second_interval(x))),
         8..=10 => interval_test(op, first_interval(x), x[2]),
         11..=18 => vector_op(op, x, out),

@@ -1,5 +1,5 @@
 -- `digits::bits_of` is safe: what is not unlike itself is no NaN. Assumes nothing.
-use Rattle.numbers.specs.Bits.{is-num}
+use Rattle.steps.specs.Bits.{is-num}
 use borrow.Author.Needs.{needs}
 use Rattle.digits.proofs.bits_of.Statement.{statement}
 use Rattle.digits.proofs.bits_of.Tie as tie

@@ -1,5 +1,5 @@
 -- `digits::float_of` is safe: up to the infinity's, a pattern with the sign's bit taken off is no NaN's. Assumes nothing.
-use Rattle.numbers.specs.Bits.{pattern-no-nan}
+use Rattle.steps.specs.Bits.{pattern-no-nan}
 use borrow.Author.Needs.{needs}
 use Rattle.digits.proofs.float_of.Statement.{statement}
 use Rattle.digits.proofs.float_of.Tie as tie

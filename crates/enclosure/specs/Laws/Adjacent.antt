@@ -12,7 +12,7 @@ use lib.Ieee.Fits.{eq→eqb, and-l, and-r, and-i}
 use lib.Ieee.Bits.{ofBits-fits}
 use lib.Ieee.Exact.{HasValue}
 use lib.Ieee.Scale.{finite}
-use Rattle.numbers.specs.Next.{INF, nextUp, nextDown}
+use Rattle.steps.specs.Next.{INF, nextUp, nextDown}
 use Rattle.enclosure.specs.Value.{ONE}
 use Rattle.enclosure.specs.Laws.Small.{le-or-lt, or-split, or-right}
 use Rattle.enclosure.specs.Laws.Pairs.{plus, minus}

@@ -12,7 +12,7 @@ use lib.Ieee.{Float, nan, inf, fin, binary64, up, down, round, units, odd, size,
 use lib.Ieee.Fits.{down-pos, round-fits, and-l}
 use lib.Ieee.Exact.{HasValue}
 use lib.Ieee.Order.{round-mono, transfer}
-use Rattle.numbers.specs.Next.{INF, TOP, NEGINF}
+use Rattle.steps.specs.Next.{INF, TOP, NEGINF}
 use Rattle.enclosure.specs.Value.{ONE}
 use Rattle.enclosure.specs.Laws.Small.{le-or-lt, or-split, in-top}
 use Rattle.enclosure.specs.Laws.Patterns.{F, val, F-value, F-inf, val-step, val-exact, odd-neg, F-neg, View, view}

@@ -12,7 +12,7 @@ use lib.IntN.{ℤ}
 use lib.Ieee.Fits.{down-pos, neg-fits}
 use lib.Ieee.Exact.{HasValue}
 use lib.Ieee.Scale.{finite}
-use Rattle.numbers.specs.Next.{INF, TOP, nextUp, nextDown}
+use Rattle.steps.specs.Next.{INF, TOP, nextUp, nextDown}
 use Rattle.enclosure.specs.Value.{ONE, units}
 use Rattle.enclosure.specs.Laws.Pairs.{plus, minus, Lower, Upper}
 use Rattle.enclosure.specs.Laws.Patterns.{F, val, F-value, F-inf, View, view}

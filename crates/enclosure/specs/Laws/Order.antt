@@ -11,7 +11,7 @@ use lib.Ieee.{Float, nan, inf, fin, binary64, up, down, fits, isNan, le, lt, eq}
 use lib.Ieee.Fits.{down-pos, and-l, and-r}
 use lib.Ieee.Exact.{HasValue}
 use lib.Ieee.Order.{transfer}
-use Rattle.numbers.specs.Next.{INF, TOP, nextUp, nextDown}
+use Rattle.steps.specs.Next.{INF, TOP, nextUp, nextDown}
 use Rattle.numbers.specs.Ops.{leastF, greatestF}
 use Rattle.enclosure.specs.Value.{ONE}
 use Rattle.enclosure.specs.Laws.Small.{le-or-lt, or-split}

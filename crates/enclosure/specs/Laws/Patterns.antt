@@ -12,8 +12,8 @@ use borrow.Author.Tests.{le-leb, lt-leb, eq-eqb, ne-eqb}
 use lib.Ieee.{Float, nan, inf, fin, binary64, odd, round, ofFields, ofBits, toBits, fits, isNan, nanBits, neg}
 use lib.Ieee.Bits.{is-false, cond-no, ofBits-toBits, toBits-lt, toBits-ofBits, nanBits-is, nanBits-above}
 use lib.Ieee.Exact.{HasValue, odd-sign, round-exact}
-use Rattle.numbers.specs.Next.{INF, TOP, NEGINF}
-use Rattle.numbers.specs.Bits.{pattern-no-nan}
+use Rattle.steps.specs.Next.{INF, TOP, NEGINF}
+use Rattle.steps.specs.Bits.{pattern-no-nan}
 use Rattle.enclosure.specs.Value.{ONE}
 use Rattle.enclosure.specs.Laws.Small.{le-or-lt}
 

@@ -11,7 +11,7 @@ use lib.Ieee.{Float, nan, inf, fin, binary64, up, down, fits, isNan, neg, mul, r
 use lib.Ieee.Fits.{cond-fits, nan-fits, neg-fits, mul-fits, eq→eqb, up-pos, down-pos}
 use lib.Ieee.Scale.{finite}
 use Rattle.numbers.specs.declared.Interval.{Interval}
-use Rattle.numbers.specs.Next.{INF, TOP, nextUp, nextDown}
+use Rattle.steps.specs.Next.{INF, TOP, nextUp, nextDown}
 use Rattle.numbers.specs.Ops.{zeroF, leastF, greatestF, least4, greatest4, onProducts, checkedI, mulI, squareLow, sqrI}
 use Rattle.enclosure.specs.Value.{ONE, units}
 use Rattle.enclosure.specs.Laws.Small.{le-or-lt, in-top, neg-neg}

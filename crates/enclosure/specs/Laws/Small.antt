@@ -6,7 +6,7 @@ use native.Mathlib.Omega.{arith}
 use mathlib.Core.Bool.{Bool, true, false, not, _||_}
 use lib.Dec.{T, leb, leb→le, nleb→lt}
 use lib.Ieee.{Float, nan, inf, fin, neg}
-use Rattle.numbers.specs.Next.{INF, TOP}
+use Rattle.steps.specs.Next.{INF, TOP}
 
 pub le-or-lt : (a c : ℕ) → (a ≤ c) ⊎ (c < a)
 le-or-lt a c = go (leb a c) (leb→le a c) (nleb→lt a c)

@@ -9,7 +9,7 @@ use borrow.Author.Tests.{ne-eqb, lt-ltb, le-ltb, eqb-false}
 use lib.Ieee.{Float, nan, inf, fin, binary64, up, down, ne, isNan, fits, nanBits, ofBits, toBits}
 use lib.Ieee.Bits.{cond-no, ofBits-toBits, toBits-lt, nanBits-is, nanBits-above}
 use lib.Ieee.Compare.{differs-from-itself}
-use Rattle.numbers.specs.Next.{INF, TOP, NEGINF, upBits, downBits, nextUp, nextDown}
+use Rattle.steps.specs.Next.{INF, TOP, NEGINF, upBits, downBits, nextUp, nextDown}
 use Rattle.enclosure.specs.Laws.Patterns.{F, sg, F-bits, F-no-nan}
 
 -- a step, by the index on the right side of the sign

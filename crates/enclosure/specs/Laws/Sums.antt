@@ -9,7 +9,7 @@ use lib.Ieee.{Float, nan, inf, fin, binary64, fits, isNan, neg, add, sub, ofBits
 use lib.Ieee.Fits.{cond-fits, nan-fits, inf-fits, neg-fits}
 use lib.Ieee.Bits.{ofBits-fits}
 use Rattle.numbers.specs.declared.Interval.{Interval}
-use Rattle.numbers.specs.Next.{INF, upBits, downBits, nextUp, nextDown}
+use Rattle.steps.specs.Next.{INF, upBits, downBits, nextUp, nextDown}
 use Rattle.numbers.specs.Ops.{entire, checkedI, pointI, addI, subI, negI}
 use Rattle.enclosure.specs.Value.{ONE}
 use Rattle.enclosure.specs.Laws.Pairs.{plus, minus, Lower, Upper, In}

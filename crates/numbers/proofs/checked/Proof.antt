@@ -1,7 +1,7 @@
 -- `numbers::checked` meets its contract: each arm returns what `checkedI` picks where its tests are as the arm found them. Assumes nothing.
 use mathlib.Core.Path.{sym, _∙_}
 use lib.Ieee.{div, neg, ofBits}
-use Rattle.numbers.specs.Bits.{ne-self}
+use Rattle.steps.specs.Bits.{ne-self}
 use Rattle.numbers.proofs.checked.Statement.{statement}
 use Rattle.numbers.proofs.checked.Tie as tie
 

@@ -2,7 +2,7 @@
 use mathlib.Core.Path.{ap, ap₂, _∙_}
 use borrow.Author.Needs.{needs}
 use lib.Ieee.{ofBits}
-use Rattle.numbers.specs.Next.{nextUp}
+use Rattle.steps.specs.Next.{nextUp}
 use Rattle.numbers.specs.Ops.{checkedI, squareLow, sqrI}
 use Rattle.numbers.proofs.Interval.sqr.Statement.{statement}
 use Rattle.numbers.proofs.Interval.sqr.Tie as tie

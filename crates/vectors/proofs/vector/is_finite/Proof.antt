@@ -1,6 +1,6 @@
 -- `vectors::vector::is_finite` meets its contract: a number between the infinities is finite, and no other is. Assumes nothing.
 use lib.Ieee.{div, neg, ofBits}
-use Rattle.numbers.specs.Bits.{finite-between}
+use Rattle.steps.specs.Bits.{finite-between}
 use Rattle.vectors.proofs.vector.is_finite.Statement.{statement}
 use Rattle.vectors.proofs.vector.is_finite.Tie as tie
 

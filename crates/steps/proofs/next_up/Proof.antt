@@ -1,13 +1,13 @@
--- `numbers::next_up` meets its contract. `specs/Bits.antt` has each fact that the code asks of the bit patterns. Assumes nothing.
+-- `steps::next_up` meets its contract. `specs/Bits.antt` has each fact that the code asks of the bit patterns. Assumes nothing.
 use mathlib.Core.Path.{sym, ap, _∙_, subst}
 use mathlib.Core.Bool.{not}
 use Prim.Native.Nat.{ℕ}
 use borrow.Author.Needs.{needs}
 use lib.Dec.{T}
 use lib.Ieee.{binary64, fits, nanBits, ofBits}
-use Rattle.numbers.specs.Bits.{is-num, up-nan, up-num, up-good}
-use Rattle.numbers.proofs.next_up.Statement.{statement}
-use Rattle.numbers.proofs.next_up.Tie as tie
+use Rattle.steps.specs.Bits.{is-num, up-nan, up-num, up-good}
+use Rattle.steps.proofs.next_up.Statement.{statement}
+use Rattle.steps.proofs.next_up.Tie as tie
 
 -- what owning an `f64` tells: the format holds it
 held : (c : tie.Start) → T (fits binary64 (c .args .x))

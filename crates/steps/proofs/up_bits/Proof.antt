@@ -1,9 +1,9 @@
--- `numbers::up_bits` meets its contract: each arm returns what `upBits` picks where its tests are as the arm found them. Assumes nothing.
+-- `steps::up_bits` meets its contract: each arm returns what `upBits` picks where its tests are as the arm found them. Assumes nothing.
 use borrow.Author.Needs.{needs}
 use borrow.Author.Tests.{ne-eqb, lt-ltb, le-ltb}
-use Rattle.numbers.specs.Next.{INF, TOP}
-use Rattle.numbers.proofs.up_bits.Statement.{statement}
-use Rattle.numbers.proofs.up_bits.Tie as tie
+use Rattle.steps.specs.Next.{INF, TOP}
+use Rattle.steps.proofs.up_bits.Statement.{statement}
+use Rattle.steps.proofs.up_bits.Tie as tie
 
 add-result : tie.Need-add-result
 add-result c = search needs

@@ -1,9 +1,9 @@
--- `numbers::down_bits` meets its contract: each arm returns what `downBits` picks where its tests are as the arm found them. Assumes nothing.
+-- `steps::down_bits` meets its contract: each arm returns what `downBits` picks where its tests are as the arm found them. Assumes nothing.
 use borrow.Author.Needs.{needs}
 use borrow.Author.Tests.{ne-eqb, lt-ltb, le-ltb}
-use Rattle.numbers.specs.Next.{NEGINF, TOP}
-use Rattle.numbers.proofs.down_bits.Statement.{statement}
-use Rattle.numbers.proofs.down_bits.Tie as tie
+use Rattle.steps.specs.Next.{NEGINF, TOP}
+use Rattle.steps.proofs.down_bits.Statement.{statement}
+use Rattle.steps.proofs.down_bits.Tie as tie
 
 sub-result : tie.Need-sub-result
 sub-result c = search needs

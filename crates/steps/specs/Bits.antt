@@ -10,7 +10,7 @@ use lib.Ieee.{Float, nan, inf, fin, binary64, up, down, lt, ne, isNan, fits, nan
 use lib.Ieee.Bits.{cond-no, ofBits-toBits, toBits-lt, nanBits-is, nanBits-above}
 use lib.Ieee.Compare.{differs-from-itself}
 use lib.Ieee.Scale.{finite}
-use Rattle.numbers.specs.Next.{INF, TOP, NEGINF, upBits, downBits, nextUp, nextDown}
+use Rattle.steps.specs.Next.{INF, TOP, NEGINF, upBits, downBits, nextUp, nextDown}
 
 pub pattern-no-nan : (n : ℕ) → n % TOP ≤ INF → T (not (nanBits binary64 n))
 pattern-no-nan n h = subst (λ (t : Bool). T (not t)) (sym (nanBits-above binary64 n)) (le→nltb INF (n % TOP) h)
