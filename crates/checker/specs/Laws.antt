@@ -9,12 +9,11 @@ use lib.Dec.{eqb, ltb, leb}
 use lib.Ieee.{Float}
 use lib.ListN.{length, set, take, drop, take-append-drop}
 use lib.Seq.{sets, take-all, take-nil, drop-nil, length-take-le, drop-append-le}
-use borrow.Author.Tests.{ltb-true, ltb-false, leb-true, leb-false, le-leb, lt-leb}
-use Rattle.geometry.specs.Refuse.{_unless_, answer}
-use Rattle.meaning.specs.Model.{Model, has}
+use borrow.Author.Tests.{ltb-true, ltb-false, leb-true, leb-false}
+use Rattle.geometry.specs.Refuse.{answer}
 use Rattle.meaning.specs.Faults as Faults
 use Rattle.meaning.specs.Faults.{Fault, Finding, faultsOf, skippedOf, reportOf, kept, counts, CheckOptions, checkRefusal, sawing, sawable}
-use Rattle.lists.specs.Tests.{then-zero, unless-zero, refused-answer}
+use Rattle.lists.specs.Tests.{refused-answer}
 use Rattle.model.specs.Decode.{decode}
 use Rattle.model.specs.Readable.{readable}
 use Rattle.reasons.specs.declared.Tally.{Tally}
@@ -22,13 +21,13 @@ use Rattle.reasons.specs.Log.{faultWords, faultsWords, Log, logOf, Noted}
 use Rattle.reasons.specs.Laws.{logged-report}
 use Rattle.walks.specs.Calls.{reach, handed, inFront}
 use Rattle.walks.specs.Decoded.{refusedBy}
+use Rattle.asking.specs.Facts.{askRefusal}
 use Rattle.bodies.specs.Bodies.{nothingYet}
 use Rattle.checker.specs.declared.Counts.{Counts}
 use Rattle.checker.specs.declared.Checked.{Checked}
 use Rattle.checker.specs.declared.Checked.the-variants as Checks
 use Rattle.checker.specs.declared.Sawable.the-variants as Saws
 use Rattle.checker.specs.Calls.{asked, seenCounts, reportOn, checkNumber, checkAnswer, checkWords, fitAnswer}
-use Rattle.checker.specs.Facts.{askRefusal}
 
 -- ---- entries put from the front on, as far as the list goes
 
@@ -126,27 +125,6 @@ module _ (d e : List ℕ) (k : ℕ) (l : List Finding) (r : Tally) (p : Noted l 
 
 pub quarter : (n : ℕ) → 4 * (n / 4) ≤ n
 quarter n = omega (arith, div-add-mod' n 4)
-
--- ---- the refusals
-
-module _ (m : Model) (samples b : ℕ) where
-  pub ask-samples : 255 < samples → 1 ≡ askRefusal m samples b
-  unfolding askRefusal
-  ask-samples h = rw (lt-leb samples 255 h)
-
-  pub ask-body : samples ≤ 255 → has (m .bodies) b ≡ false → 2 ≡ askRefusal m samples b
-  unfolding askRefusal
-  ask-body h g = rw (le-leb samples 255 h, g)
-
-  pub ask-none : samples ≤ 255 → has (m .bodies) b ≡ true → 0 ≡ askRefusal m samples b
-  unfolding askRefusal
-  ask-none h g = rw (le-leb samples 255 h, g)
-
-  pub ask-passed : askRefusal m samples b ≡ 0 → (samples ≤ 255) × (has (m .bodies) b ≡ true)
-  unfolding askRefusal
-  ask-passed e =
-      let p = then-zero (1 unless leb samples 255) (2 unless has (m .bodies) b) e in
-      (leb-true samples 255 (unless-zero 0 (leb samples 255) (p .0)), unless-zero 1 (has (m .bodies) b) (p .1))
 
 -- ---- the call
 

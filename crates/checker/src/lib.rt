@@ -1,22 +1,19 @@
 // `check_body` of gensolid-check's lib.rs over lent memory, its faults in plain numbers, four to a fault; and fit to saw (01, "Faults").
 // specs/Calls.antt says which number, which report and which words.
+use asking::kept_of;
+use asking::refusal;
 use bodies::body_findings;
-use legible::readable;
 use marks::clear;
 ghost use mathlib.Core.Path.{_≡_};
-ghost use mathlib.Core.Bool.{true, cond};
+ghost use mathlib.Core.Bool.{true};
 ghost use Prim.Native.Nat.{_≤_, _<_, _/_};
-ghost use lib.Dec.{ltb};
 ghost use lib.ListN.{length, replicate};
 ghost use Rattle.meaning.specs.Faults.{counts, kept};
 ghost use Rattle.model.specs.Layout.{word};
-ghost use Rattle.model.specs.Decode.{decode};
 ghost use Rattle.model.specs.Readable.{readable};
 ghost use Rattle.reasons.specs.Log.{faultsWords};
 ghost use Rattle.walks.specs.Calls.{inFront};
-ghost use Rattle.walks.specs.Decoded.{refusedBy};
 ghost use Rattle.checker.specs.Calls.{asked, reportOn, seenCounts, checkAnswer, checkWords, fitAnswer};
-ghost use Rattle.checker.specs.Facts.{askRefusal};
 
 // How many faults there are, how many were kept, and how many checks could not be made.
 pub struct Counts {
@@ -35,42 +32,6 @@ pub enum Checked {
 pub enum Sawable {
     Is(bool),
     Refused(u32),
-}
-
-// 9, 8 for short marks, 1 for too many samples, 2 for no such body.
-fn refusal(
-    room: &[usize; 10],
-    words: &[u32],
-    reals: &[f64],
-    enough: bool,
-    samples: usize,
-    body: usize,
-) -> u32
-    ensures { λ r. ⌜ r ≡ refusedBy (readable (now (room .entry)) (now (words .entry)) (now (reals .entry))) enough (askRefusal (decode (now (room .entry)) (now (words .entry)) (now (reals .entry))) samples body) ⌝ }
-{
-    if !readable(room, words, reals) {
-        return 9;
-    }
-    if !enough {
-        return 8;
-    }
-    if 255 < samples {
-        return 1;
-    }
-    if words[0] as usize <= body {
-        return 2;
-    }
-    0
-}
-
-// As many of the first as fit.
-fn kept_of(faults: usize, space: usize) -> usize
-    ensures { λ r. ⌜ r ≡ cond (ltb faults space) faults space ⌝ }
-{
-    if faults < space {
-        return faults;
-    }
-    space
 }
 
 // The report, its faults put into as many whole entries as the list has. The marks come all zero and are left so.

@@ -7,9 +7,10 @@ use Rattle.model.specs.Decode.{decode}
 use Rattle.model.specs.Readable.{readable}
 use Rattle.walks.specs.Calls.{reach}
 use Rattle.walks.specs.Laws.{accepted, zeros-on, zeros-same}
+use Rattle.asking.specs.Facts.{askRefusal}
+use Rattle.asking.specs.Laws.{ask-passed}
 use Rattle.checker.specs.Calls.{asked}
-use Rattle.checker.specs.Facts.{askRefusal}
-use Rattle.checker.specs.Laws.{ask-passed, number-told, answer-refused, words-refused, answer-given, words-given}
+use Rattle.checker.specs.Laws.{number-told, answer-refused, words-refused, answer-given, words-given}
 use borrow.Author.Needs.{needs}
 use Rattle.checker.proofs.check_body.Statement.{statement}
 use Rattle.checker.proofs.check_body.Tie as tie

@@ -1,4 +1,4 @@
--- `checker::refusal` meets its contract: each way out is the first test that fails. Assumes nothing.
+-- `asking::refusal` meets its contract: each way out is the first test that fails. Assumes nothing.
 use native.Mathlib.Omega.{arith}
 use mathlib.Core.Path.{sym, _∙_}
 use borrow.Author.Tests.{not-true, not-false, le-ltb, lt-ltb}
@@ -7,11 +7,11 @@ use Rattle.model.specs.Decode.{decode}
 use Rattle.model.specs.Readable.{readable}
 use Rattle.model.specs.Laws.{fit-of}
 use Rattle.walks.specs.Laws.{refused-9, refused-8, refused-not}
-use Rattle.checker.specs.Facts.{askRefusal}
-use Rattle.checker.specs.Laws.{ask-samples, ask-body, ask-none}
+use Rattle.asking.specs.Facts.{askRefusal}
+use Rattle.asking.specs.Laws.{ask-samples, ask-body, ask-none}
 use borrow.Author.Needs.{needs}
-use Rattle.checker.proofs.refusal.Statement.{statement}
-use Rattle.checker.proofs.refusal.Tie as tie
+use Rattle.asking.proofs.refusal.Statement.{statement}
+use Rattle.asking.proofs.refusal.Tie as tie
 
 readable-requires : tie.Need-readable-requires
 readable-requires c κs = search needs

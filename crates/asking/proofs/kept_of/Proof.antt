@@ -1,7 +1,7 @@
--- `checker::kept_of` meets its contract. Assumes nothing.
+-- `asking::kept_of` meets its contract. Assumes nothing.
 use borrow.Author.Tests.{le-ltb, lt-ltb}
-use Rattle.checker.proofs.kept_of.Statement.{statement}
-use Rattle.checker.proofs.kept_of.Tie as tie
+use Rattle.asking.proofs.kept_of.Statement.{statement}
+use Rattle.asking.proofs.kept_of.Tie as tie
 
 returns : tie.Need-returns
 returns c = rw (lt-ltb _ _ (c .if1 .taken))

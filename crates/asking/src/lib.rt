@@ -1,0 +1,45 @@
+// What `check_body` tests before it looks at the body, and how many of the faults it keeps.
+use legible::readable;
+ghost use mathlib.Core.Path.{_≡_};
+ghost use mathlib.Core.Bool.{cond};
+ghost use lib.Dec.{ltb};
+ghost use Rattle.model.specs.Decode.{decode};
+ghost use Rattle.model.specs.Readable.{readable};
+ghost use Rattle.walks.specs.Decoded.{refusedBy};
+ghost use Rattle.asking.specs.Facts.{askRefusal};
+
+// 9, 8 for short marks, 1 for too many samples, 2 for no such body.
+pub fn refusal(
+    room: &[usize; 10],
+    words: &[u32],
+    reals: &[f64],
+    enough: bool,
+    samples: usize,
+    body: usize,
+) -> u32
+    ensures { λ r. ⌜ r ≡ refusedBy (readable (now (room .entry)) (now (words .entry)) (now (reals .entry))) enough (askRefusal (decode (now (room .entry)) (now (words .entry)) (now (reals .entry))) samples body) ⌝ }
+{
+    if !readable(room, words, reals) {
+        return 9;
+    }
+    if !enough {
+        return 8;
+    }
+    if 255 < samples {
+        return 1;
+    }
+    if words[0] as usize <= body {
+        return 2;
+    }
+    0
+}
+
+// As many of the first as fit.
+pub fn kept_of(faults: usize, space: usize) -> usize
+    ensures { λ r. ⌜ r ≡ cond (ltb faults space) faults space ⌝ }
+{
+    if faults < space {
+        return faults;
+    }
+    space
+}
