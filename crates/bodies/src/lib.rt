@@ -1,6 +1,6 @@
 // What is found of a body (`body` of gensolid-check's lib.rs).
 use entity::records::BodyKind;
-use entity::slots::body_at;
+use fetched::body_at;
 use listing::list;
 use manifold::manifold_edges;
 use reasons::Tally;

@@ -1,5 +1,5 @@
 // Carriers by id.
-use entity::slots::found;
+use fetched::found;
 use geometry::curve::Line;
 use store::Found;
 use store::LineFound;

@@ -6,7 +6,7 @@ use crate::carriers::the_line;
 use crate::refusals::then;
 use crate::refusals::unless;
 use crate::segment::Segment;
-use entity::slots::vertex_at;
+use fetched::vertex_at;
 use model::layout::words_of;
 use vectors::vector::Point3;
 ghost use mathlib.Core.Path.{_≡_};

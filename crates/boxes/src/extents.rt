@@ -1,6 +1,6 @@
 // The box of the vertices that a path lists.
 use crate::BoxFound;
-use entity::slots::vertex_at;
+use fetched::vertex_at;
 use figures::bbox::Extent;
 use marks::clear;
 use vectors::vector::Point3;

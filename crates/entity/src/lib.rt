@@ -1,3 +1,2 @@
 // The records as typed values (entity.rs), read out of the lent memory.
 pub mod records;
-pub mod slots;

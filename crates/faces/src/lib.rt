@@ -1,6 +1,6 @@
 // What is found of a face (`face` of gensolid-check's lib.rs).
 use entity::records::Ref;
-use entity::slots::face_at;
+use fetched::face_at;
 use listing::list;
 use loops::loop_;
 use reasons::Tally;

@@ -2,8 +2,8 @@
 use bounds::carriers::curve_found;
 use bounds::carriers::surface_found;
 use entity::records::Ref;
-use entity::slots::edge_at;
-use entity::slots::fin_at;
+use fetched::edge_at;
+use fetched::fin_at;
 use geometry::tolerance::effective_tolerance;
 use listing::list;
 use marks::has;

@@ -1,7 +1,7 @@
 // What is found of a loop (`loop_` of gensolid-check's lib.rs).
 use entity::records::Ref;
-use entity::slots::face_at;
-use entity::slots::loop_at;
+use fetched::face_at;
+use fetched::loop_at;
 use fins::fin;
 use fins::fin_geometry;
 use listing::list;

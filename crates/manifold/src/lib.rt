@@ -1,7 +1,7 @@
 // The manifold edges of a solid (`manifold_edge` of gensolid-check's lib.rs), over the walk of a body's edges. The walk may list ids that no
 // table has room for, so it is not put into a list: each source's new edges are tested before the next source is read.
 use entity::records::Sense;
-use entity::slots::fin_at;
+use fetched::fin_at;
 use listing::list;
 use marks::clear;
 use parts::part;

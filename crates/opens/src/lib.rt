@@ -1,8 +1,8 @@
 // The fins of a loop, each against the next (the part of `loop_` of gensolid-check's lib.rs that finds open loops).
 use entity::records::Ref;
 use entity::records::Sense;
-use entity::slots::edge_at;
-use entity::slots::fin_at;
+use fetched::edge_at;
+use fetched::fin_at;
 use reasons::Tally;
 use reasons::note_if;
 ghost use mathlib.Core.Path.{_≡_};

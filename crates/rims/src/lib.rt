@@ -1,7 +1,7 @@
 // An edge's two ends and its samples, held against its curve and a face's surface (parts of `fin_geometry` of gensolid-check's lib.rs).
 use entity::records::Edge;
 use entity::records::Ref;
-use entity::slots::vertex_at;
+use fetched::vertex_at;
 use geometry::tolerance::effective_tolerance;
 use points::curve_test;
 use points::point_on_surface;

@@ -1,7 +1,7 @@
 // What is found of a body's regions and shells (`shell`, `region` and the region layout of `body` of gensolid-check's lib.rs).
-use entity::slots::region_at;
-use entity::slots::shell_at;
 use faces::face;
+use fetched::region_at;
+use fetched::shell_at;
 use listing::list;
 use reasons::Tally;
 use reasons::note;

@@ -2,7 +2,7 @@
 // sense, pcurve mark; an edge's begin with start tag, id, end tag, id.
 use bounds::refusals::then;
 use bounds::refusals::unless;
-use entity::slots::vertex_at;
+use fetched::vertex_at;
 use figures::fan::put_point;
 use model::layout::words_of;
 use vectors::vector::Point3;

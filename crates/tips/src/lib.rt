@@ -1,8 +1,8 @@
 // `fin_vertices` of model.rs. `specs/Answers.antt` says what it answers.
 use entity::records::Ref;
 use entity::records::Sense;
-use entity::slots::edge_at;
-use entity::slots::fin_at;
+use fetched::edge_at;
+use fetched::fin_at;
 use legible::readable;
 ghost use mathlib.Core.Path.{_≡_};
 ghost use mathlib.Core.List.{List};

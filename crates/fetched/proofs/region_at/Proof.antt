@@ -1,13 +1,13 @@
--- `entity::slots::region_at` meets its contract. Assumes nothing.
+-- `fetched::region_at` meets its contract. Assumes nothing.
 use mathlib.Core.Path.{ap, _∙_}
 use mathlib.Core.List.{List}
 use Prim.Native.Nat.{ℕ}
 use borrow.Author.Needs.{needs}
 use Rattle.model.specs.Decode.{regionOf, decode}
 use Rattle.entity.specs.Seen.{seenRegion}
 use Rattle.entity.specs.Laws.{words-inside, list-stands}
-use Rattle.entity.proofs.slots.region_at.Statement.{statement}
-use Rattle.entity.proofs.slots.region_at.Tie as tie
+use Rattle.fetched.proofs.region_at.Statement.{statement}
+use Rattle.fetched.proofs.region_at.Tie as tie
 
 words-of-requires : tie.Need-words-of-requires
 words-of-requires c κs =

@@ -1,9 +1,9 @@
--- `entity::slots::carrier_at` meets its contract. Assumes nothing.
+-- `fetched::carrier_at` meets its contract. Assumes nothing.
 use mathlib.Core.Path.{_∙_}
 use Rattle.model.specs.Laws.{used-inside}
 use Rattle.entity.specs.Laws.{words-whole, reals-whole, carrier-strides}
-use Rattle.entity.proofs.slots.carrier_at.Statement.{statement}
-use Rattle.entity.proofs.slots.carrier_at.Tie as tie
+use Rattle.fetched.proofs.carrier_at.Statement.{statement}
+use Rattle.fetched.proofs.carrier_at.Tie as tie
 
 words-of-requires : tie.Need-words-of-requires
 words-of-requires c κs =

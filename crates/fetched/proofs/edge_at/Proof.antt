@@ -1,10 +1,10 @@
--- `entity::slots::edge_at` meets its contract. Assumes nothing.
+-- `fetched::edge_at` meets its contract. Assumes nothing.
 use borrow.Author.Needs.{needs}
 use Rattle.model.specs.Decode.{decode}
 use Rattle.model.specs.Laws.{used-inside, lists-of}
 use Rattle.entity.specs.Laws.{list-stands, reals-whole}
-use Rattle.entity.proofs.slots.edge_at.Statement.{statement}
-use Rattle.entity.proofs.slots.edge_at.Tie as tie
+use Rattle.fetched.proofs.edge_at.Statement.{statement}
+use Rattle.fetched.proofs.edge_at.Tie as tie
 
 words-of-requires : tie.Need-words-of-requires
 words-of-requires c κs =

@@ -1,4 +1,4 @@
--- `entity::slots::found` meets its contract. Assumes nothing.
+-- `fetched::found` meets its contract. Assumes nothing.
 use mathlib.Core.Path.{_≡_}
 use mathlib.Core.Bool.{true, false}
 use native.Mathlib.Omega.{arith}
@@ -6,10 +6,10 @@ use borrow.Author.Tests.{lt-ltb, le-ltb}
 use lib.Dec.{ltb}
 use Rattle.meaning.specs.Model.{carrierAt}
 use Rattle.model.specs.Layout.{word}
 use Rattle.entity.specs.Laws.{counts-there}
 use borrow.Author.Needs.{needs}
-use Rattle.entity.proofs.slots.found.Statement.{statement}
-use Rattle.entity.proofs.slots.found.Tie as tie
+use Rattle.fetched.proofs.found.Statement.{statement}
+use Rattle.fetched.proofs.found.Tie as tie
 
 mul-if1 : tie.Need-mul-if1
 mul-if1 c = search needs

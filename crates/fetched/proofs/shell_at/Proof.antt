@@ -1,13 +1,13 @@
--- `entity::slots::shell_at` meets its contract. Assumes nothing.
+-- `fetched::shell_at` meets its contract. Assumes nothing.
 use mathlib.Core.Path.{ap, _∙_}
 use mathlib.Core.List.{List}
 use Prim.Native.Nat.{ℕ}
 use borrow.Author.Needs.{needs}
 use Rattle.model.specs.Decode.{shellOf, decode}
 use Rattle.entity.specs.Seen.{seenShell}
 use Rattle.entity.specs.Laws.{words-inside, list-stands}
-use Rattle.entity.proofs.slots.shell_at.Statement.{statement}
-use Rattle.entity.proofs.slots.shell_at.Tie as tie
+use Rattle.fetched.proofs.shell_at.Statement.{statement}
+use Rattle.fetched.proofs.shell_at.Tie as tie
 
 words-of-requires : tie.Need-words-of-requires
 words-of-requires c κs =

@@ -1,21 +1,21 @@
 // Record i of each table, read off the lent memory.
-use crate::records::Body;
-use crate::records::Edge;
-use crate::records::Face;
-use crate::records::Fin;
-use crate::records::Loop;
-use crate::records::Region;
-use crate::records::Shell;
-use crate::records::Vertex;
-use crate::records::body_of;
-use crate::records::carrier_of;
-use crate::records::edge_of;
-use crate::records::face_of;
-use crate::records::fin_of;
-use crate::records::loop_of;
-use crate::records::region_of;
-use crate::records::shell_of;
-use crate::records::vertex_of;
+use entity::records::Body;
+use entity::records::Edge;
+use entity::records::Face;
+use entity::records::Fin;
+use entity::records::Loop;
+use entity::records::Region;
+use entity::records::Shell;
+use entity::records::Vertex;
+use entity::records::body_of;
+use entity::records::carrier_of;
+use entity::records::edge_of;
+use entity::records::face_of;
+use entity::records::fin_of;
+use entity::records::loop_of;
+use entity::records::region_of;
+use entity::records::shell_of;
+use entity::records::vertex_of;
 use model::layout::reals_of;
 use model::layout::words_of;
 use store::Carrier;

@@ -1,13 +1,13 @@
--- `entity::slots::fin_at` meets its contract. Assumes nothing.
+-- `fetched::fin_at` meets its contract. Assumes nothing.
 use mathlib.Core.Path.{ap, _∙_}
 use mathlib.Core.List.{List}
 use Prim.Native.Nat.{ℕ}
 use borrow.Author.Needs.{needs}
 use Rattle.model.specs.Decode.{finOf, decode}
 use Rattle.entity.specs.Seen.{seenFin}
 use Rattle.entity.specs.Laws.{words-inside, words-whole}
-use Rattle.entity.proofs.slots.fin_at.Statement.{statement}
-use Rattle.entity.proofs.slots.fin_at.Tie as tie
+use Rattle.fetched.proofs.fin_at.Statement.{statement}
+use Rattle.fetched.proofs.fin_at.Tie as tie
 
 words-of-requires : tie.Need-words-of-requires
 words-of-requires c κs =

@@ -1,10 +1,10 @@
--- `entity::slots::vertex_at` meets its contract. Assumes nothing.
+-- `fetched::vertex_at` meets its contract. Assumes nothing.
 use borrow.Author.Needs.{needs}
 use Rattle.model.specs.Decode.{decode}
 use Rattle.model.specs.Laws.{used-inside}
 use Rattle.entity.specs.Laws.{words-whole, reals-whole}
-use Rattle.entity.proofs.slots.vertex_at.Statement.{statement}
-use Rattle.entity.proofs.slots.vertex_at.Tie as tie
+use Rattle.fetched.proofs.vertex_at.Statement.{statement}
+use Rattle.fetched.proofs.vertex_at.Tie as tie
 
 words-of-requires : tie.Need-words-of-requires
 words-of-requires c κs =
