@@ -20,7 +20,7 @@ use Rattle.model.specs.Layout.{word, wordsOf}
 use Rattle.model.specs.Entries.{listOf}
 use Rattle.bounds.specs.declared.segment.Segment.{Segment}
 use Rattle.bounds.specs.Segment.{low, high}
-use Rattle.uses.specs.declared.planes.Cut.{Cut}
+use Rattle.slices.specs.declared.Cut.{Cut}
 
 -- 1. "Fraction not finite, ≤ 0 or ≥ 1"
 unfoldable pub fractionOk : Float → Bool

@@ -8,7 +8,7 @@ use geometry::tolerance::effective_tolerance;
 use model::layout::reals_of;
 use model::layout::words_of;
 use signs::apart;
-use uses::planes::Cut;
+use slices::Cut;
 use vectors::vector::Point3;
 use vectors::vector::is_finite;
 ghost use mathlib.Core.Path.{_≡_};

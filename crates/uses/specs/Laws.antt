@@ -26,8 +26,9 @@ use Rattle.model.specs.Entries.{listOf}
 use Rattle.model.specs.Fit.{Lists}
 use Rattle.model.specs.Laws.{before-tables}
 use Rattle.bounds.specs.Laws.{refuses}
-use Rattle.uses.specs.declared.planes.Cut.{Cut}
-use Rattle.uses.specs.Uses.{cutAt, onPlanes, planeTest, onceEach, pcurveTest, useTest, faceTest, finTest}
+use Rattle.slices.specs.declared.Cut.{Cut}
+use Rattle.slices.specs.Slices.{onPlanes, planeTest, faceTest}
+use Rattle.uses.specs.Uses.{cutAt, onceEach, pcurveTest, useTest, finTest}
 
 -- ---- tests
 

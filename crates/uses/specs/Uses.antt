@@ -4,20 +4,17 @@ use mathlib.Core.Bool.{Bool, _&&_}
 use mathlib.Core.List.{List, [], _∷_, _++_}
 use lib.Dec.{eqb, ltb}
 use lib.Ieee.{Float}
-use Rattle.geometry.specs.declared.surface.Plane.{Plane}
 use Rattle.geometry.specs.Refuse.{_unless_, _then_}
 use Rattle.geometry.specs.Geometry.{linePoint, effective}
-use Rattle.store.specs.declared.Found.{Found}
-use Rattle.store.specs.Queries.{planeRefusal, thePlane}
-use Rattle.signs.specs.Signs.{offPlaneS}
 use Rattle.meaning.specs.Lists.{member, count}
-use Rattle.meaning.specs.Model.{Model, edge, surface}
+use Rattle.meaning.specs.Model.{Model, edge}
 use Rattle.meaning.specs.Refuse.{_if_}
-use Rattle.meaning.specs.Split.{carrier, lo, hi, parameter, splitPoint, within}
+use Rattle.meaning.specs.Split.{carrier, lo, hi, parameter, splitPoint}
 use Rattle.model.specs.Layout.{word, wordsOf}
-use Rattle.model.specs.Decode.{flagAt, decode}
+use Rattle.model.specs.Decode.{flagAt}
 use Rattle.model.specs.Entries.{listOf}
-use Rattle.uses.specs.declared.planes.Cut.{Cut}
+use Rattle.slices.specs.declared.Cut.{Cut}
+use Rattle.slices.specs.Slices.{faceTest}
 
 -- "then at lo, hi and the split parameter"
 unfoldable pub cutAt : Model → ℕ → Float → Cut
@@ -28,17 +25,6 @@ cutAt m e t =
       at = splitPoint m e t;
       tolerance = effective (edge m e .tolerance) (m .precision);
     }
-
--- "squared plane distance less squared edge tolerance: positive 1, unresolved 7"
-unfoldable pub onPlanes : Plane → Cut → ℕ
-onPlanes s c =
-    within (offPlaneS s (c .lo) (c .tolerance))
-    then within (offPlaneS s (c .hi) (c .tolerance))
-    then within (offPlaneS s (c .at) (c .tolerance))
-
--- "surface missing 2; not a plane 7; then .."
-unfoldable pub planeTest : Found → Cut → ℕ
-planeTest f c = planeRefusal f then onPlanes (thePlane f) c
 
 -- each entry, in list order, that is not among those before it: "repeated 1", then its own test
 unfoldable pub onceEach : (ℕ → ℕ) → List ℕ → List ℕ → ℕ
@@ -58,13 +44,6 @@ module _ (room w : List ℕ) where
       then 2 unless ltb (word (wordsOf room w 5 i) 0) (word w 4)
 
   module _ (x : List Float) where
-    -- "face missing 2; no surface 1; surface missing 2; .."
-    unfoldable pub faceTest : Cut → ℕ → ℕ
-    faceTest c f =
-        2 unless ltb f (word w 3)
-        then 1 unless flagAt (wordsOf room w 3 f) 4
-        then planeTest (surface (decode room w x) (word (wordsOf room w 3 f) 5)) c
-
     -- one fin of test 11
     unfoldable pub finTest : ℕ → Cut → ℕ → ℕ
     finTest e c i =
@@ -72,4 +51,4 @@ module _ (room w : List ℕ) where
         1 unless eqb (word (wordsOf room w 5 i) 1) e
         then 2 unless ltb l (word w 4)
         then 1 unless eqb (count i (listOf room w 6 l)) 1
-        then faceTest c (word (wordsOf room w 4 l) 0)
+        then faceTest room w x c (word (wordsOf room w 4 l) 0)

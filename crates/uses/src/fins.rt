@@ -1,10 +1,10 @@
 // The fins of an edge, in list order. A fin's words are owner, edge, sense, pcurve mark.
-use crate::planes::Cut;
-use crate::planes::face_refusal;
 use bounds::refusals::then;
 use bounds::refusals::unless;
 use listing::list;
 use model::layout::words_of;
+use slices::Cut;
+use slices::face_refusal;
 ghost use mathlib.Core.Path.{_≡_};
 ghost use Prim.Native.Nat.{_<_};
 ghost use mathlib.Core.Bool.{cond};

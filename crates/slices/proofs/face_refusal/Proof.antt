@@ -1,4 +1,4 @@
--- `uses::planes::face_refusal` meets its contract. Assumes nothing.
+-- `slices::face_refusal` meets its contract. Assumes nothing.
 use native.Mathlib.Omega.{arith}
 use mathlib.Core.Path.{_≡_, ap, _∙_}
 use mathlib.Core.Bool.{true, false}
@@ -8,10 +8,10 @@ use borrow.Author.Tests.{lt-ltb, le-ltb}
 use Rattle.model.specs.Layout.{word}
 use Rattle.model.specs.Laws.{used-inside, words-length}
 use Rattle.bounds.specs.Laws.{counts-there}
-use Rattle.uses.specs.Uses.{faceTest}
+use Rattle.slices.specs.Slices.{faceTest}
 use borrow.Author.Needs.{needs}
-use Rattle.uses.proofs.planes.face_refusal.Statement.{statement}
-use Rattle.uses.proofs.planes.face_refusal.Tie as tie
+use Rattle.slices.proofs.face_refusal.Statement.{statement}
+use Rattle.slices.proofs.face_refusal.Tie as tie
 
 shared-slice-read-if1 : tie.Need-shared-slice-read-if1
 shared-slice-read-if1 c = let s = c .before .before .before in let n = counts-there (s .args .room .now) (s .args .words .now) (s .args .reals .now) (s .pre) in omega arith

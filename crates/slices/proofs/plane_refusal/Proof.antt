@@ -1,11 +1,11 @@
--- `uses::planes::plane_refusal` meets its contract. Assumes nothing.
+-- `slices::plane_refusal` meets its contract. Assumes nothing.
 use mathlib.Core.Path.{sym, _∙_}
 use Rattle.store.specs.Queries.{planeRefusal, thePlane, planeAnswer}
 use Rattle.store.specs.Laws.{plane-refused, plane-given}
-use Rattle.uses.specs.Uses.{planeTest}
+use Rattle.slices.specs.Slices.{planeTest}
 use borrow.Author.Needs.{needs}
-use Rattle.uses.proofs.planes.plane_refusal.Statement.{statement}
-use Rattle.uses.proofs.planes.plane_refusal.Tie as tie
+use Rattle.slices.proofs.plane_refusal.Statement.{statement}
+use Rattle.slices.proofs.plane_refusal.Tie as tie
 
 plane-of-requires : tie.Need-plane-of-requires
 plane-of-requires c κs = search needs

@@ -15,7 +15,7 @@ ghost use Prim.Native.Nat.{_<_};
 ghost use Rattle.meaning.specs.Split.{within};
 ghost use Rattle.model.specs.Layout.{word};
 ghost use Rattle.model.specs.Fit.{Sized};
-ghost use Rattle.uses.specs.Uses.{onPlanes, planeTest, faceTest};
+ghost use Rattle.slices.specs.Slices.{onPlanes, planeTest, faceTest};
 
 // The points at lo, hi and the split parameter, and the edge's tolerance.
 pub struct Cut {

@@ -1,8 +1,8 @@
--- `uses::planes::on_planes` meets its contract. Assumes nothing.
-use Rattle.uses.specs.Uses.{onPlanes}
+-- `slices::on_planes` meets its contract. Assumes nothing.
+use Rattle.slices.specs.Slices.{onPlanes}
 use borrow.Author.Needs.{needs}
-use Rattle.uses.proofs.planes.on_planes.Statement.{statement}
-use Rattle.uses.proofs.planes.on_planes.Tie as tie
+use Rattle.slices.proofs.on_planes.Statement.{statement}
+use Rattle.slices.proofs.on_planes.Tie as tie
 
 off-plane-requires : tie.Need-off-plane-requires
 off-plane-requires c κs = search needs
