@@ -25,7 +25,7 @@ use Rattle.model.specs.Decode.{flagAt, decode}
 use Rattle.model.specs.Readable.{readable}
 use Rattle.model.specs.Fit.{Sized, Fit}
 use Rattle.model.specs.Laws.{before-tables, fit-of}
-use Rattle.bounds.specs.Segment.{segmentAt, low, high, spanRefusal}
+use Rattle.segments.specs.Segment.{segmentAt, low, high, spanRefusal}
 use Rattle.bounds.specs.Ends.{carrierRefusal, endsRefusal}
 use Rattle.bounds.specs.Answers.{boundsNumber}
 
@@ -44,11 +44,6 @@ no-line Missing n e = refl
 no-line (There (Carriers.Line l)) n e = absurd (omega arith)
 no-line (There (Carriers.Plane s)) n e = refl
 no-line (There Carriers.Other) n e = refl
-
--- a refusal is the first of its row
-pub refuses : (a b : ℕ) → (a ≡ 0 → ⊥) → a ≡ a then b
-refuses zero b h = absurd (h refl)
-refuses (suc n) b h = refl
 
 -- ---- an optional id, as its tag's test and its id
 

@@ -1,4 +1,3 @@
-pub mod Segment
 pub mod Ends
 pub mod Answers
 pub mod Laws

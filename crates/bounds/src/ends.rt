@@ -3,11 +3,11 @@
 use crate::carriers::curve_found;
 use crate::carriers::line_refusal;
 use crate::carriers::the_line;
-use crate::refusals::then;
-use crate::refusals::unless;
-use crate::segment::Segment;
 use fetched::vertex_at;
 use model::layout::words_of;
+use segments::refusals::then;
+use segments::refusals::unless;
+use segments::segment::Segment;
 use vectors::vector::Point3;
 ghost use mathlib.Core.Path.{_≡_};
 ghost use Prim.Native.Nat.{_<_};
@@ -16,7 +16,7 @@ ghost use Rattle.meaning.specs.Model.{pointOf};
 ghost use Rattle.model.specs.Layout.{word};
 ghost use Rattle.model.specs.Decode.{decode};
 ghost use Rattle.model.specs.Fit.{Sized, Fit};
-ghost use Rattle.bounds.specs.Segment.{segmentAt};
+ghost use Rattle.segments.specs.Segment.{segmentAt};
 ghost use Rattle.bounds.specs.Ends.{carrierRefusal, endsRefusal};
 
 // Tests 4 to 6, of the edge's words.

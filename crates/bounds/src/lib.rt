@@ -1,13 +1,11 @@
 // `edge_parameter_bounds` of euler.rs, and what the split asks about its edge too. `specs/Answers.antt` says what it answers.
 pub mod carriers;
 pub mod ends;
-pub mod refusals;
-pub mod segment;
 
 use crate::ends::ends_refusal;
 use crate::ends::segment_at;
-use crate::segment::span_refusal;
 use legible::readable;
+use segments::segment::span_refusal;
 ghost use mathlib.Core.Path.{_≡_};
 ghost use Rattle.meaning.specs.Split.{boundsRefusal};
 ghost use Rattle.model.specs.Decode.{decode};

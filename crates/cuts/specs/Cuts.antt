@@ -18,8 +18,8 @@ use Rattle.meaning.specs.Model.{Model, edge}
 use Rattle.meaning.specs.Split.{isPositive}
 use Rattle.model.specs.Layout.{word, wordsOf}
 use Rattle.model.specs.Entries.{listOf}
-use Rattle.bounds.specs.declared.segment.Segment.{Segment}
-use Rattle.bounds.specs.Segment.{low, high}
+use Rattle.segments.specs.declared.segment.Segment.{Segment}
+use Rattle.segments.specs.Segment.{low, high}
 use Rattle.slices.specs.declared.Cut.{Cut}
 
 -- 1. "Fraction not finite, ≤ 0 or ≥ 1"

@@ -26,7 +26,7 @@ use Rattle.model.specs.Decode.{decode}
 use Rattle.model.specs.Entries.{listOf}
 use Rattle.model.specs.Fit.{Sized}
 use Rattle.model.specs.Laws.{before-tables}
-use Rattle.bounds.specs.Segment.{segmentAt, low, high, spanRefusal}
+use Rattle.segments.specs.Segment.{segmentAt, low, high, spanRefusal}
 use Rattle.bounds.specs.Ends.{endsRefusal}
 use Rattle.bounds.specs.Laws.{bounds-tests}
 use Rattle.uses.specs.Uses.{cutAt, onceEach, pcurveTest, finTest}

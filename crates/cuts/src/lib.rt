@@ -1,12 +1,12 @@
 // Where the edge is split: tests 1, 9 and 10.
-use bounds::refusals::then;
-use bounds::refusals::unless;
-use bounds::segment::Segment;
-use bounds::segment::is_positive;
 use entity::records::tolerance_of;
 use geometry::tolerance::effective_tolerance;
 use model::layout::reals_of;
 use model::layout::words_of;
+use segments::refusals::then;
+use segments::refusals::unless;
+use segments::segment::Segment;
+use segments::segment::is_positive;
 use signs::apart;
 use slices::Cut;
 use vectors::vector::Point3;

@@ -26,7 +26,7 @@ use Rattle.marks.specs.Laws.{take-more, joined-turn}
 use Rattle.visits.specs.Visits.{idsOf}
 use Rattle.paths.specs.Paths.{facePath, faceList, edgePath, edgeList, bodyFollowed, facesThere, loopsFollowed, edgesThere, Edged}
 use Rattle.paths.specs.Laws.{shelled-of, faced-of, looped-of, edged-of}
-use Rattle.bounds.specs.Laws.{refuses}
+use Rattle.segments.specs.Laws.{refuses}
 use Rattle.walks.specs.Decoded.{refusedBy}
 use Rattle.walks.specs.Laws.{face-list, edge-list, faces-refusal, edges-refusal, vertices-refusal, accepted}
 use Rattle.polyhedral.specs.Carried.{carried}

@@ -2,9 +2,9 @@
 use bounds::carriers::curve_found;
 use bounds::carriers::line_refusal;
 use bounds::carriers::surface_found;
-use bounds::refusals::then;
-use bounds::refusals::unless;
 use model::layout::words_of;
+use segments::refusals::then;
+use segments::refusals::unless;
 use store::Found;
 use store::PlaneFound;
 use store::plane_of;

@@ -1,7 +1,7 @@
 // The first refusal among the ids that a path's sources list.
 use crate::carriers::carrier_refusal;
-use bounds::refusals::then;
 use parts::part;
+use segments::refusals::then;
 ghost use mathlib.Core.Path.{_≡_};
 ghost use Rattle.meaning.specs.Refuse.{firstOf};
 ghost use Rattle.model.specs.Decode.{decode};

@@ -1,10 +1,10 @@
 // A face as a shell lists it: whether its volume can be told, and that volume (`oriented_face_volume` of inquire.rs). A face's words
 // begin with front tag, id, back tag, id.
-use bounds::refusals::then;
-use bounds::refusals::unless;
 use figures::fan::polygon_volume;
 use listing::list;
 use model::layout::words_of;
+use segments::refusals::then;
+use segments::refusals::unless;
 use starts::start_points;
 use starts::starts_refusal;
 ghost use mathlib.Core.Path.{_≡_};

@@ -1,10 +1,10 @@
 // Whether the faces of an edge hold it: test 11 from the face on.
 use bounds::carriers::surface_found;
-use bounds::refusals::then;
-use bounds::refusals::unless;
 use geometry::surface::Plane;
 use model::layout::words_of;
 use numbers::Sign;
+use segments::refusals::then;
+use segments::refusals::unless;
 use signs::off_plane;
 use store::Found;
 use store::PlaneFound;

@@ -25,7 +25,7 @@ use Rattle.model.specs.Fit.{Fit, Lists}
 use Rattle.model.specs.Laws.{fit-of, lists-of, words-length, list-inside, list-held, list-room, limit-le, listed-le}
 use Rattle.beside.specs.Beside.{entriesFor}
 use Rattle.beside.specs.Facts.{Longer}
-use Rattle.bounds.specs.Segment.{segmentAt}
+use Rattle.segments.specs.Segment.{segmentAt}
 use Rattle.uses.specs.Uses.{cutAt, onceEach, finTest}
 use Rattle.uses.specs.Laws.{counts-listed}
 use Rattle.cuts.specs.Cuts.{pointTest, wireTest, ownedBy, loopTest, tablesTest, capacityTest}

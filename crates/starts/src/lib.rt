@@ -1,10 +1,10 @@
 // Where the fins of a loop start (`fin_vertices` and the points of `oriented_face_volume`, inquire.rs). A fin's words are owner, edge,
 // sense, pcurve mark; an edge's begin with start tag, id, end tag, id.
-use bounds::refusals::then;
-use bounds::refusals::unless;
 use fetched::vertex_at;
 use figures::fan::put_point;
 use model::layout::words_of;
+use segments::refusals::then;
+use segments::refusals::unless;
 use vectors::vector::Point3;
 ghost use mathlib.Core.Path.{_≡_};
 ghost use mathlib.Core.Bool.{true};

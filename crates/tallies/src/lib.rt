@@ -1,7 +1,7 @@
 // The sides of a body's solid regions, met one after the other as they are listed (the loops of `body_volume`, inquire.rs).
-use bounds::refusals::then;
 use listing::list;
 use model::layout::words_of;
+use segments::refusals::then;
 use sides::side_refusal;
 use sides::side_volume;
 ghost use mathlib.Core.Path.{_≡_};

@@ -25,7 +25,7 @@ use Rattle.model.specs.Decode.{decode}
 use Rattle.model.specs.Entries.{listOf}
 use Rattle.model.specs.Fit.{Lists}
 use Rattle.model.specs.Laws.{before-tables}
-use Rattle.bounds.specs.Laws.{refuses}
+use Rattle.segments.specs.Laws.{refuses}
 use Rattle.slices.specs.declared.Cut.{Cut}
 use Rattle.slices.specs.Slices.{onPlanes, planeTest, faceTest}
 use Rattle.uses.specs.Uses.{cutAt, onceEach, pcurveTest, useTest, finTest}

@@ -1,8 +1,8 @@
 // The fins of an edge, in list order. A fin's words are owner, edge, sense, pcurve mark.
-use bounds::refusals::then;
-use bounds::refusals::unless;
 use listing::list;
 use model::layout::words_of;
+use segments::refusals::then;
+use segments::refusals::unless;
 use slices::Cut;
 use slices::face_refusal;
 ghost use mathlib.Core.Path.{_≡_};

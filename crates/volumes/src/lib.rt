@@ -1,10 +1,10 @@
 // `body_volume` of inquire.rs. specs/Answers.antt says what it answers.
-use bounds::refusals::then;
-use bounds::refusals::unless;
 use listing::list;
 use marks::clear;
 use model::layout::words_of;
 use polyhedral::polyhedral_refusal;
+use segments::refusals::then;
+use segments::refusals::unless;
 use tallies::Tally;
 use tallies::regions_tally;
 ghost use mathlib.Core.Path.{_≡_};

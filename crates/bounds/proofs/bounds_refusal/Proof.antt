@@ -1,5 +1,6 @@
 -- `bounds::bounds_refusal` meets its contract. Assumes nothing.
-use Rattle.bounds.specs.Laws.{refuses, bounds-tests}
+use Rattle.segments.specs.Laws.{refuses}
+use Rattle.bounds.specs.Laws.{bounds-tests}
 use borrow.Author.Needs.{needs}
 use Rattle.bounds.proofs.bounds_refusal.Statement.{statement}
 use Rattle.bounds.proofs.bounds_refusal.Tie as tie

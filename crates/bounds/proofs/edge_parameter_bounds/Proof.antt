@@ -2,7 +2,7 @@
 use mathlib.Core.Path.{sym, _∙_}
 use Rattle.meaning.specs.Split.{lo, hi}
 use Rattle.bounds.specs.declared.Bounds.the-variants.{Is, Refused}
-use Rattle.bounds.specs.Segment.{segmentAt, low, high}
+use Rattle.segments.specs.Segment.{segmentAt, low, high}
 use Rattle.bounds.specs.Answers.{boundsAnswer}
 use Rattle.bounds.specs.Laws.{answers, opened}
 use borrow.Author.Needs.{needs}

@@ -6,7 +6,7 @@ use Rattle.model.specs.Laws.{words-length}
 use Rattle.parts.specs.Laws.{used-inside}
 use Rattle.geometry.specs.Refuse.{_then_}
 use Rattle.model.specs.Layout.{wordsOf}
-use Rattle.bounds.specs.Laws.{refuses}
+use Rattle.segments.specs.Laws.{refuses}
 use Rattle.sides.specs.Sides.{boundNumber, rimOf, rimNumber, sideNumber}
 use Rattle.sides.specs.Laws.{face-there, one-loop, rim-whole}
 use Rattle.sides.proofs.side_refusal.Statement.{statement}

@@ -1,6 +1,6 @@
 -- `thirteen::tests_refusal` meets its contract. Assumes nothing.
 use mathlib.Core.Path.{sym, _∙_}
-use Rattle.bounds.specs.Laws.{refuses}
+use Rattle.segments.specs.Laws.{refuses}
 use Rattle.cuts.specs.Laws.{split-rows}
 use Rattle.thirteen.proofs.tests_refusal.Statement.{statement}
 use Rattle.thirteen.proofs.tests_refusal.Tie as tie

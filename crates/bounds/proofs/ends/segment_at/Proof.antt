@@ -4,7 +4,7 @@ use mathlib.Core.Path.{_≡_, ap, _∙_}
 use lib.Dec.{lit<}
 use lib.ListN.{length}
 use Rattle.model.specs.Laws.{used-inside, words-length}
-use Rattle.bounds.specs.Segment.{segmentAt}
+use Rattle.segments.specs.Segment.{segmentAt}
 use Rattle.bounds.specs.Laws.{within, ended}
 use Rattle.bounds.proofs.ends.segment_at.Statement.{statement}
 use Rattle.bounds.proofs.ends.segment_at.Tie as tie

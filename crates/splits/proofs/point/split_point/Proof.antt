@@ -1,5 +1,5 @@
 use Rattle.cuts.specs.Cuts.{along, cutOf}
-use Rattle.bounds.specs.Segment.{segmentAt, low, high}
+use Rattle.segments.specs.Segment.{segmentAt, low, high}
 use Rattle.meaning.specs.Split.{lo, hi, parameter, splitPoint}
 use borrow.Author.Needs.{needs}
 use Rattle.splits.proofs.point.split_point.Statement.{statement}

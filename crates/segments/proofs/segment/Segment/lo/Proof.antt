@@ -1,8 +1,8 @@
--- `bounds::segment::Segment::lo` meets its contract. Assumes nothing.
-use Rattle.bounds.specs.Segment.{low}
+-- `segments::segment::Segment::lo` meets its contract. Assumes nothing.
+use Rattle.segments.specs.Segment.{low}
 use borrow.Author.Needs.{needs}
-use Rattle.bounds.proofs.segment.Segment.lo.Statement.{statement}
-use Rattle.bounds.proofs.segment.Segment.lo.Tie as tie
+use Rattle.segments.proofs.segment.Segment.lo.Statement.{statement}
+use Rattle.segments.proofs.segment.Segment.lo.Tie as tie
 
 closest-param-requires : tie.Need-closest-param-requires
 closest-param-requires c κs = search needs

@@ -9,7 +9,7 @@ use vectors::vector::Point3;
 use vectors::vector::is_finite;
 ghost use mathlib.Core.Path.{_≡_};
 ghost use Rattle.meaning.specs.Split.{isPositive};
-ghost use Rattle.bounds.specs.Segment.{low, high, spanRefusal};
+ghost use Rattle.segments.specs.Segment.{low, high, spanRefusal};
 
 pub struct Segment {
     pub line: Line,

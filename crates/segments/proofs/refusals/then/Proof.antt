@@ -1,8 +1,8 @@
--- `bounds::refusals::then` meets its contract. Assumes nothing.
-use Rattle.bounds.specs.Laws.{refuses}
+-- `segments::refusals::then` meets its contract. Assumes nothing.
+use Rattle.segments.specs.Laws.{refuses}
 use borrow.Author.Needs.{needs}
-use Rattle.bounds.proofs.refusals.then.Statement.{statement}
-use Rattle.bounds.proofs.refusals.then.Tie as tie
+use Rattle.segments.proofs.refusals.then.Statement.{statement}
+use Rattle.segments.proofs.refusals.then.Tie as tie
 
 returns : tie.Need-returns
 returns c = refuses _ _ (c .if1 .taken)

@@ -1,8 +1,8 @@
--- `bounds::segment::span_refusal` meets its contract. Assumes nothing.
-use Rattle.bounds.specs.Segment.{spanRefusal}
+-- `segments::segment::span_refusal` meets its contract. Assumes nothing.
+use Rattle.segments.specs.Segment.{spanRefusal}
 use borrow.Author.Needs.{needs}
-use Rattle.bounds.proofs.segment.span_refusal.Statement.{statement}
-use Rattle.bounds.proofs.segment.span_refusal.Tie as tie
+use Rattle.segments.proofs.segment.span_refusal.Statement.{statement}
+use Rattle.segments.proofs.segment.span_refusal.Tie as tie
 
 lo-requires : tie.Need-lo-requires
 lo-requires c κs = search needs

@@ -1,8 +1,8 @@
--- `bounds::segment::Segment::hi` meets its contract. Assumes nothing.
-use Rattle.bounds.specs.Segment.{high}
+-- `segments::segment::Segment::hi` meets its contract. Assumes nothing.
+use Rattle.segments.specs.Segment.{high}
 use borrow.Author.Needs.{needs}
-use Rattle.bounds.proofs.segment.Segment.hi.Statement.{statement}
-use Rattle.bounds.proofs.segment.Segment.hi.Tie as tie
+use Rattle.segments.proofs.segment.Segment.hi.Statement.{statement}
+use Rattle.segments.proofs.segment.Segment.hi.Tie as tie
 
 closest-param-requires : tie.Need-closest-param-requires
 closest-param-requires c κs = search needs

@@ -8,7 +8,7 @@ use Rattle.geometry.specs.Geometry.{nearest}
 use Rattle.signs.specs.Signs.{increasingS, spanS}
 use Rattle.meaning.specs.Model.{Model}
 use Rattle.meaning.specs.Split.{isPositive, carrier, startPoint, endPoint}
-use Rattle.bounds.specs.declared.segment.Segment.{Segment}
+use Rattle.segments.specs.declared.segment.Segment.{Segment}
 
 unfoldable pub segmentAt : Model → ℕ → Segment
 segmentAt m e = record { line = carrier m e; start = startPoint m e; end = endPoint m e }
