@@ -2,7 +2,7 @@
 use Prim.Native.Nat.{ℕ, zero, suc, _≤_, _<_}
 use native.Mathlib.Omega.{arith}
 use native.Mathlib.Nat.{le-trans}
-use mathlib.Core.Path.{_≡_, refl, sym, ap, _∙_, subst}
+use mathlib.Core.Path.{_≡_, refl, sym, ap, _∙_}
 use mathlib.Core.Bool.{Bool, true, false, not, cond, _&&_}
 use mathlib.Core.List.{List, [], _∷_}
 use mathlib.Core.Option.{none, some}
@@ -28,10 +28,6 @@ use Rattle.model.specs.Laws.{before-tables, fit-of}
 use Rattle.segments.specs.Segment.{segmentAt, low, high, spanRefusal}
 use Rattle.bounds.specs.Ends.{carrierRefusal, endsRefusal}
 use Rattle.bounds.specs.Answers.{boundsNumber}
-
--- a place of a slice whose length is known
-pub within : {n m : ℕ} (k : ℕ) → n ≡ m → k < m → k < n
-within k e h = subst (λ (z : ℕ). k < z) (sym e) h
 
 -- the used counts are there
 pub counts-there : (room w : List ℕ) (x : List Float) → Sized room w x → 10 ≤ length w

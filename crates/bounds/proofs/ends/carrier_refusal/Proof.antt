@@ -7,7 +7,8 @@ use Rattle.geometry.specs.Refuse.{_then_}
 use Rattle.store.specs.Queries.{lineRefusal}
 use Rattle.model.specs.Decode.{decode}
 use Rattle.bounds.specs.Ends.{carrierRefusal}
-use Rattle.bounds.specs.Laws.{within, counts-there}
+use Rattle.entity.specs.Laws.{within}
+use Rattle.bounds.specs.Laws.{counts-there}
 use Rattle.bounds.proofs.ends.carrier_refusal.Statement.{statement}
 use Rattle.bounds.proofs.ends.carrier_refusal.Tie as tie
 

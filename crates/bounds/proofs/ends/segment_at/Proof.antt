@@ -5,7 +5,8 @@ use lib.Dec.{lit<}
 use lib.ListN.{length}
 use Rattle.model.specs.Laws.{used-inside, words-length}
 use Rattle.segments.specs.Segment.{segmentAt}
-use Rattle.bounds.specs.Laws.{within, ended}
+use Rattle.entity.specs.Laws.{within}
+use Rattle.bounds.specs.Laws.{ended}
 use Rattle.bounds.proofs.ends.segment_at.Statement.{statement}
 use Rattle.bounds.proofs.ends.segment_at.Tie as tie
 
