@@ -1,6 +1,4 @@
 // The trial stone (01, "Trial stone"), laid out by inserts and appended entries, as meaning/specs/Stone.antt has it.
-pub mod counts;
-
 use edits::Inserted;
 use edits::make;
 use entity::records::BodyKind;
@@ -224,6 +222,38 @@ fn put_vertices(room: &[usize; 10], words: &mut [u32; 8377], reals: &mut [f64; 1
     ok
 }
 
+// The line of edge i.
+fn put_line(
+    room: &[usize; 10],
+    words: &mut [u32; 8377],
+    reals: &mut [f64; 158],
+    i: usize,
+) -> bool {
+    if 12 <= i {
+        return false;
+    }
+    let line = Line {
+        origin: CORNERS[(STARTS[i] % 8) as usize],
+        direction: AXES[i / 4],
+    };
+    stands(insert_curve(room, &mut words[..], &mut reals[..], Carrier::Line(line)))
+}
+
+// The two fins of edge i, in its list.
+fn list_fins(
+    room: &[usize; 10],
+    words: &mut [u32; 8377],
+    reals: &[f64; 158],
+    i: usize,
+) -> bool {
+    if 12 <= i {
+        return false;
+    }
+    let a = append_entry(room, &mut words[..], &reals[..], 7, i, FINS[2 * i]);
+    let b = append_entry(room, &mut words[..], &reals[..], 7, i, FINS[2 * i + 1]);
+    (a == 0) & (b == 0)
+}
+
 fn put_edge(
     room: &[usize; 10],
     words: &mut [u32; 8377],
@@ -234,24 +264,18 @@ fn put_edge(
     if 12 <= i {
         return false;
     }
-    let start = STARTS[i];
-    let line = Line {
-        origin: CORNERS[(start % 8) as usize],
-        direction: AXES[i / 4],
-    };
-    let lies = stands(insert_curve(room, &mut words[..], &mut reals[..], Carrier::Line(line)));
+    let lies = put_line(room, words, reals, i);
     let put = stands(insert_edge(
         room,
         &mut words[..],
         &mut reals[..],
-        Ref::Is(start),
+        Ref::Is(STARTS[i]),
         Ref::Is(ENDS[i]),
         Ref::Is(curve),
         Tolerance::Session,
     ));
-    let a = append_entry(room, &mut words[..], &reals[..], 7, i, FINS[2 * i]);
-    let b = append_entry(room, &mut words[..], &reals[..], 7, i, FINS[2 * i + 1]);
-    lies & put & (a == 0) & (b == 0)
+    let listed = list_fins(room, words, reals, i);
+    lies & put & listed
 }
 
 fn put_edges(room: &[usize; 10], words: &mut [u32; 8377], reals: &mut [f64; 158]) -> bool {
@@ -264,13 +288,12 @@ fn put_edges(room: &[usize; 10], words: &mut [u32; 8377], reals: &mut [f64; 158]
     ok
 }
 
-// A face, of the void's shell in front and the material's behind, and its loop.
-fn put_face(
+// The plane of face i.
+fn put_plane(
     room: &[usize; 10],
     words: &mut [u32; 8377],
     reals: &mut [f64; 158],
     i: usize,
-    id: u32,
 ) -> bool {
     if 6 <= i {
         return false;
@@ -279,7 +302,32 @@ fn put_face(
         origin: CORNERS[BASES[i] % 8],
         normal: NORMALS[i],
     };
-    let lies = stands(insert_surface(room, &mut words[..], &mut reals[..], Carrier::Plane(plane)));
+    stands(insert_surface(room, &mut words[..], &mut reals[..], Carrier::Plane(plane)))
+}
+
+// A face in the lists of both shells, and its loop in its own.
+fn list_face(
+    room: &[usize; 10],
+    words: &mut [u32; 8377],
+    reals: &[f64; 158],
+    i: usize,
+    id: u32,
+) -> bool {
+    let a = append_entry(room, &mut words[..], &reals[..], 2, 0, id);
+    let b = append_entry(room, &mut words[..], &reals[..], 2, 1, id);
+    let c = append_entry(room, &mut words[..], &reals[..], 5, i, id);
+    (a == 0) & (b == 0) & (c == 0)
+}
+
+// A face, of the void's shell in front and the material's behind, and its loop.
+fn put_face(
+    room: &[usize; 10],
+    words: &mut [u32; 8377],
+    reals: &mut [f64; 158],
+    i: usize,
+    id: u32,
+) -> bool {
+    let lies = put_plane(room, words, reals, i);
     let face = stands(insert_face(
         room,
         &mut words[..],
@@ -290,10 +338,8 @@ fn put_face(
         sense_of(0),
     ));
     let rim = stands(insert_loop(room, &mut words[..], &mut reals[..], id));
-    let a = append_entry(room, &mut words[..], &reals[..], 2, 0, id);
-    let b = append_entry(room, &mut words[..], &reals[..], 2, 1, id);
-    let c = append_entry(room, &mut words[..], &reals[..], 5, i, id);
-    lies & face & rim & (a == 0) & (b == 0) & (c == 0)
+    let listed = list_face(room, words, reals, i, id);
+    lies & face & rim & listed
 }
 
 fn put_faces(room: &[usize; 10], words: &mut [u32; 8377], reals: &mut [f64; 158]) -> bool {

@@ -1,6 +1,9 @@
 // The rows of 01's table 'Trial stone', asked of the code and printed: a float as its bits, a refusal as its number.
 use boxes::BoxFound;
 use boxes::body_bounding_box;
+use census::edges;
+use census::faces;
+use census::vertices;
 use checker::Checked;
 use checker::check_body;
 use digits::bits_of;
@@ -11,9 +14,6 @@ use numbers::Interval;
 use splits::Split;
 use splits::split_line_edge;
 use stones::ROOM;
-use stones::counts::edges;
-use stones::counts::faces;
-use stones::counts::vertices;
 use stones::trial_stone;
 use vectors::vector::Point3;
 use volumes::Volume;

@@ -1,13 +1,13 @@
 // 01's program `trialstone`: splits edge A of the trial stone at 0.25 and prints, before and after: faces, edges, vertices, fins, faults
 // with geometry off.
+use census::edges;
+use census::faces;
+use census::faults;
+use census::fins;
+use census::vertices;
 use splits::Split;
 use splits::split_line_edge;
 use stones::ROOM;
-use stones::counts::edges;
-use stones::counts::faces;
-use stones::counts::faults;
-use stones::counts::fins;
-use stones::counts::vertices;
 use stones::trial_stone;
 
 fn line(words: &[u32; 8377], reals: &[f64; 158]) {

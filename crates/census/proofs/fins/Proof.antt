@@ -1,9 +1,9 @@
--- `stones::counts::fins` ends: fewer turns are left at each. Assumes nothing.
+-- `census::fins` ends: fewer turns are left at each. Assumes nothing.
 use Prim.Native.Nat.{_≤_, _-_}
 use native.Mathlib.Omega.{arith}
 use borrow.Author.Needs.{needs}
-use Rattle.stones.proofs.counts.fins.Statement.{statement}
-use Rattle.stones.proofs.counts.fins.Tie as tie
+use Rattle.census.proofs.fins.Statement.{statement}
+use Rattle.census.proofs.fins.Tie as tie
 
 abbrev Inv-loop : tie.InvT-loop
 Inv-loop words reals n₀ id₀ n id = id ≤ 13

@@ -1,8 +1,9 @@
-// What there is of the stone, by the calls.
+// What there is of the trial stone, by the calls.
 use checker::Checked;
 use checker::check_body;
 use lookup::EdgeFound;
 use lookup::edge;
+use stones::ROOM;
 use walks::walks::write_edges;
 use walks::walks::write_faces;
 use walks::walks::write_vertices;
@@ -23,7 +24,7 @@ pub fn faces(words: &[u32], reals: &[f64]) -> u64 {
     let mut out = [0u32; 6];
     let mut code = 0;
     let n = write_faces(
-        &crate::ROOM,
+        &ROOM,
         words,
         reals,
         0,
@@ -40,7 +41,7 @@ pub fn edges(words: &[u32], reals: &[f64]) -> u64 {
     let mut out = [0u32; 13];
     let mut code = 0;
     let n = write_edges(
-        &crate::ROOM,
+        &ROOM,
         words,
         reals,
         0,
@@ -59,7 +60,7 @@ pub fn vertices(words: &[u32], reals: &[f64]) -> u64 {
     let mut out = [0u32; 9];
     let mut code = 0;
     let n = write_vertices(
-        &crate::ROOM,
+        &ROOM,
         words,
         reals,
         0,
@@ -74,7 +75,7 @@ pub fn vertices(words: &[u32], reals: &[f64]) -> u64 {
 
 // How many fins an edge has; a record that is not there has none.
 fn fins_of(words: &[u32], reals: &[f64], id: usize) -> u64 {
-    match edge(&crate::ROOM, words, reals, id) {
+    match edge(&ROOM, words, reals, id) {
         EdgeFound::Is(found) => found.fins as u64,
         EdgeFound::Refused(_) => 0,
     }
@@ -97,7 +98,7 @@ pub fn faults(words: &[u32], reals: &[f64]) -> u64 {
     let mut seen = [0u8; 13];
     let mut list = [0u32; 4];
     match check_body(
-        &crate::ROOM,
+        &ROOM,
         words,
         reals,
         0,
