@@ -23,15 +23,7 @@ pub fn faces(words: &[u32], reals: &[f64]) -> u64 {
     let mut marks = [0u8; 6];
     let mut out = [0u32; 6];
     let mut code = 0;
-    let n = write_faces(
-        &ROOM,
-        words,
-        reals,
-        0,
-        &mut marks,
-        &mut out,
-        &mut code,
-    );
+    let n = write_faces(&ROOM, words, reals, 0, &mut marks, &mut out, &mut code);
     counted(n, code)
 }
 

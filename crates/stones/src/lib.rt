@@ -223,12 +223,7 @@ fn put_vertices(room: &[usize; 10], words: &mut [u32; 8377], reals: &mut [f64; 1
 }
 
 // The line of edge i.
-fn put_line(
-    room: &[usize; 10],
-    words: &mut [u32; 8377],
-    reals: &mut [f64; 158],
-    i: usize,
-) -> bool {
+fn put_line(room: &[usize; 10], words: &mut [u32; 8377], reals: &mut [f64; 158], i: usize) -> bool {
     if 12 <= i {
         return false;
     }
@@ -240,12 +235,7 @@ fn put_line(
 }
 
 // The two fins of edge i, in its list.
-fn list_fins(
-    room: &[usize; 10],
-    words: &mut [u32; 8377],
-    reals: &[f64; 158],
-    i: usize,
-) -> bool {
+fn list_fins(room: &[usize; 10], words: &mut [u32; 8377], reals: &[f64; 158], i: usize) -> bool {
     if 12 <= i {
         return false;
     }
