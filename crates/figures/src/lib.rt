@@ -1,3 +1,2 @@
-// Boxes of points (bbox.rs), and the fan of a polygon (`polygon_volume` of inquire.rs).
+// Boxes of points (bbox.rs).
 pub mod bbox;
-pub mod fan;

@@ -21,7 +21,7 @@ use Rattle.model.specs.Entries.{listOf}
 use Rattle.model.specs.Fit.{Lists}
 use Rattle.marks.specs.Laws.{all-nth}
 use Rattle.parts.specs.Laws.{list-short}
-use Rattle.figures.specs.Figures.{turned}
+use Rattle.polygons.specs.Polygons.{turned}
 use Rattle.starts.specs.Starts.{startNumber, startPoint, finWhole}
 use Rattle.starts.specs.Laws.{start-number}
 use Rattle.sides.specs.Sides.{isAt, boundNumber, rimOf, rimNumber, sideNumber, loopWhole, faceWhole}

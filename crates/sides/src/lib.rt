@@ -1,8 +1,8 @@
 // A face as a shell lists it: whether its volume can be told, and that volume (`oriented_face_volume` of inquire.rs). A face's words
 // begin with front tag, id, back tag, id.
-use figures::fan::polygon_volume;
 use listing::list;
 use model::layout::words_of;
+use polygons::polygon_volume;
 use segments::refusals::then;
 use segments::refusals::unless;
 use starts::start_points;
@@ -18,7 +18,7 @@ ghost use Rattle.meaning.specs.Inquire.{alike, polygonVolume, sideVolume};
 ghost use Rattle.model.specs.Decode.{decode};
 ghost use Rattle.model.specs.Entries.{listOf};
 ghost use Rattle.model.specs.Fit.{Fit, Lists};
-ghost use Rattle.figures.specs.Figures.{turned};
+ghost use Rattle.polygons.specs.Polygons.{turned};
 ghost use Rattle.starts.specs.Starts.{startNumber, startPoint, finWhole};
 ghost use Rattle.sides.specs.Sides.{isAt, boundNumber, rimOf, rimNumber, sideNumber, faceWhole};
 

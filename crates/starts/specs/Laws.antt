@@ -21,8 +21,8 @@ use Rattle.lists.specs.Tests.{and-both, then-zero, unless-zero}
 use Rattle.model.specs.Layout.{word, wordsOf}
 use Rattle.model.specs.Decode.{flagAt, maybeAt, decode}
 use Rattle.parts.specs.Parts.{finEdge}
-use Rattle.figures.specs.Figures.{pointsOf, withPoint}
-use Rattle.figures.specs.Laws.{point-more}
+use Rattle.polygons.specs.Polygons.{pointsOf, withPoint}
+use Rattle.polygons.specs.Laws.{point-more}
 use Rattle.polyhedral.specs.Laws.{map-turn}
 use Rattle.starts.specs.Starts.{startPlace, endNumber, startNumber, startId, startPoint, finWhole, Whole}
 

@@ -1,8 +1,8 @@
 // Where the fins of a loop start (`fin_vertices` and the points of `oriented_face_volume`, inquire.rs). A fin's words are owner, edge,
 // sense, pcurve mark; an edge's begin with start tag, id, end tag, id.
 use fetched::vertex_at;
-use figures::fan::put_point;
 use model::layout::words_of;
+use polygons::put_point;
 use segments::refusals::then;
 use segments::refusals::unless;
 use vectors::vector::Point3;
@@ -17,7 +17,7 @@ ghost use Rattle.model.specs.Layout.{word, wordsOf};
 ghost use Rattle.model.specs.Decode.{decode};
 ghost use Rattle.model.specs.Fit.{Fit, Lists};
 ghost use Rattle.parts.specs.Parts.{finEdge};
-ghost use Rattle.figures.specs.Figures.{pointsOf};
+ghost use Rattle.polygons.specs.Polygons.{pointsOf};
 ghost use Rattle.starts.specs.Starts.{startPlace, endNumber, startNumber, startId, startPoint, finWhole, Whole};
 
 // Where the start stands in the edge's words: a fin that runs against its edge starts at the end.

@@ -5,7 +5,7 @@ use lib.Seq.{length-take-le}
 use Prim.Native.Nat.{_*_}
 use lib.ListN.{length}
 use Rattle.meaning.specs.Inquire.{polygonVolume}
-use Rattle.figures.specs.Figures.{turned}
+use Rattle.polygons.specs.Polygons.{turned}
 use borrow.Author.Needs.{needs}
 use Rattle.sides.proofs.rim_volume.Statement.{statement}
 use Rattle.sides.proofs.rim_volume.Tie as tie

@@ -8,7 +8,7 @@ use Rattle.parts.specs.Laws.{used-inside}
 use Rattle.model.specs.Decode.{decode}
 use mathlib.Core.List.{map}
 use Rattle.meaning.specs.Inquire.{polygonVolume}
-use Rattle.figures.specs.Figures.{turned}
+use Rattle.polygons.specs.Polygons.{turned}
 use Rattle.starts.specs.Starts.{startPoint}
 use Rattle.sides.specs.Sides.{isAt}
 use Rattle.sides.specs.Laws.{face-there, passed, rim-whole, rim-short, side-volume}

@@ -7,8 +7,8 @@ use lib.ListN.{length, getD, take}
 use lib.Seq.{take-all}
 use Rattle.marks.specs.Laws.{all-nth}
 use Rattle.model.specs.Decode.{decode}
-use Rattle.figures.specs.Figures.{pointsOf}
-use Rattle.figures.specs.Laws.{point-length}
+use Rattle.polygons.specs.Polygons.{pointsOf}
+use Rattle.polygons.specs.Laws.{point-length}
 use Rattle.starts.specs.Starts.{startNumber, startPoint, finWhole}
 use Rattle.starts.specs.Laws.{whole-of, first-at, no-points, points-turn}
 use Rattle.starts.proofs.start_points.Statement.{statement}

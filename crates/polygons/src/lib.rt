@@ -6,7 +6,7 @@ ghost use mathlib.Core.Bool.{cond};
 ghost use Prim.Native.Nat.{_+_, _*_, _-_, _<_, _≤_};
 ghost use lib.ListN.{length, getD};
 ghost use Rattle.meaning.specs.Inquire.{polygonVolume};
-ghost use Rattle.figures.specs.Figures.{originP, wedge, pointsOf, withPoint, turned};
+ghost use Rattle.polygons.specs.Polygons.{originP, wedge, pointsOf, withPoint, turned};
 
 // Puts p as point k.
 pub fn put_point(points: &mut [f64], k: usize, p: Point3)

@@ -1,11 +1,11 @@
--- `fan::wedge` meets its contract: what its calls ensure. Assumes nothing.
+-- `wedge` meets its contract: what its calls ensure. Assumes nothing.
 use mathlib.Core.Path.{ap, ap₂, _∙_}
 use Rattle.vectors.specs.Space.{dotV, crossV}
 use Rattle.meaning.specs.Floats.{toVec}
-use Rattle.figures.specs.Figures.{wedge}
+use Rattle.polygons.specs.Polygons.{wedge}
 use borrow.Author.Needs.{needs}
-use Rattle.figures.proofs.fan.wedge.Statement.{statement}
-use Rattle.figures.proofs.fan.wedge.Tie as tie
+use Rattle.polygons.proofs.wedge.Statement.{statement}
+use Rattle.polygons.proofs.wedge.Tie as tie
 
 sub-requires : tie.Need-sub-requires
 sub-requires c κs = search needs

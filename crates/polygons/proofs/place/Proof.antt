@@ -1,9 +1,9 @@
--- `fan::place` meets its contract: which way the test went. Assumes nothing.
+-- `place` meets its contract: which way the test went. Assumes nothing.
 use mathlib.Core.Path.{refl}
 use native.Mathlib.Omega.{arith}
 use borrow.Author.Needs.{needs}
-use Rattle.figures.proofs.fan.place.Statement.{statement}
-use Rattle.figures.proofs.fan.place.Tie as tie
+use Rattle.polygons.proofs.place.Statement.{statement}
+use Rattle.polygons.proofs.place.Tie as tie
 
 sub-result : tie.Need-sub-result
 sub-result c = search needs

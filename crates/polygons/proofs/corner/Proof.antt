@@ -1,11 +1,11 @@
--- `fan::corner` meets its contract. Assumes nothing.
+-- `corner` meets its contract. Assumes nothing.
 use mathlib.Core.Path.{_∙_}
 use native.Mathlib.Omega.{arith}
-use Rattle.figures.specs.Figures.{pointsOf}
-use Rattle.figures.specs.Laws.{points-length, turned-at}
+use Rattle.polygons.specs.Polygons.{pointsOf}
+use Rattle.polygons.specs.Laws.{points-length, turned-at}
 use borrow.Author.Needs.{needs}
-use Rattle.figures.proofs.fan.corner.Statement.{statement}
-use Rattle.figures.proofs.fan.corner.Tie as tie
+use Rattle.polygons.proofs.corner.Statement.{statement}
+use Rattle.polygons.proofs.corner.Tie as tie
 
 place-requires : tie.Need-place-requires
 place-requires c κs = search needs

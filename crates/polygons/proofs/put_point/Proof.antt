@@ -1,11 +1,11 @@
--- `fan::put_point` meets its contract. Assumes nothing.
+-- `put_point` meets its contract. Assumes nothing.
 use mathlib.Core.Path.{refl}
 use native.Mathlib.Omega.{arith}
 use lib.ListN.{length-set}
-use Rattle.figures.specs.Figures.{withPoint}
+use Rattle.polygons.specs.Polygons.{withPoint}
 use borrow.Author.Needs.{needs}
-use Rattle.figures.proofs.fan.put_point.Statement.{statement}
-use Rattle.figures.proofs.fan.put_point.Tie as tie
+use Rattle.polygons.proofs.put_point.Statement.{statement}
+use Rattle.polygons.proofs.put_point.Tie as tie
 
 mul-points : tie.Need-mul-points
 mul-points c = search needs

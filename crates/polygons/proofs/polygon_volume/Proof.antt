@@ -1,4 +1,4 @@
--- `fan::polygon_volume` meets its contract: a turn of the loop is one more triangle of the fan. Assumes nothing.
+-- `polygon_volume` meets its contract: a turn of the loop is one more triangle of the fan. Assumes nothing.
 use Prim.Native.Nat.{_≤_, _-_}
 use mathlib.Core.Path.{_≡_, sym, ap, ap₂, _∙_}
 use native.Mathlib.Omega.{arith}
@@ -9,11 +9,11 @@ use Rattle.vectors.specs.declared.vector.Point3.{Point3}
 use Rattle.vectors.specs.Space.{_+ᶠ_}
 use Rattle.meaning.specs.Floats.{_/ᶠ_}
 use Rattle.meaning.specs.Inquire.{fan}
-use Rattle.figures.specs.Figures.{pointsOf, turned, wedge}
-use Rattle.figures.specs.Laws.{points-length, turned-length, fan-turn, fan-done, polygon-none, polygon-fan, zero-bits, six-bits}
+use Rattle.polygons.specs.Polygons.{pointsOf, turned, wedge}
+use Rattle.polygons.specs.Laws.{points-length, turned-length, fan-turn, fan-done, polygon-none, polygon-fan, zero-bits, six-bits}
 use borrow.Author.Needs.{needs}
-use Rattle.figures.proofs.fan.polygon_volume.Statement.{statement}
-use Rattle.figures.proofs.fan.polygon_volume.Tie as tie
+use Rattle.polygons.proofs.polygon_volume.Statement.{statement}
+use Rattle.polygons.proofs.polygon_volume.Tie as tie
 
 abbrev Inv-loop : tie.InvT-loop
 Inv-loop points n back o acc₀ k₀ acc k = (1 ≤ k) × (k ≤ n) × (fan o zeroF (drop 1 (turned back (pointsOf points))) ≡ fan o acc (drop k (turned back (pointsOf points))))

@@ -1,9 +1,9 @@
--- `fan::point_at` meets its contract. Assumes nothing.
+-- `point_at` meets its contract. Assumes nothing.
 use native.Mathlib.Omega.{arith}
-use Rattle.figures.specs.Laws.{point-at}
+use Rattle.polygons.specs.Laws.{point-at}
 use borrow.Author.Needs.{needs}
-use Rattle.figures.proofs.fan.point_at.Statement.{statement}
-use Rattle.figures.proofs.fan.point_at.Tie as tie
+use Rattle.polygons.proofs.point_at.Statement.{statement}
+use Rattle.polygons.proofs.point_at.Tie as tie
 
 mul-t3 : tie.Need-mul-t3
 mul-t3 c = search needs
