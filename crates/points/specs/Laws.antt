@@ -2,10 +2,7 @@
 use Prim.Native.Nat.{ℕ, zero, suc, _+_, _<_}
 use native.Mathlib.Omega.{arith}
 use mathlib.Core.Path.{_≡_, refl, sym, ap, _∙_}
-use mathlib.Core.Bool.{true, false}
 use mathlib.Core.List.{List, [], _∷_, _++_}
-use lib.Dec.{eqb}
-use borrow.Author.Tests.{ne-eqb}
 use lib.Ieee.{Float, lt}
 use lib.ListN.{length, getD, List·getD-append}
 use lib.Seq.{getD-append-seam}
@@ -27,7 +24,7 @@ use Rattle.store.specs.Queries.{theLine, thePlane, evalRefusal, projectRefusal,
 use Rattle.signs.specs.Signs.{offCurveS}
 use Rattle.meaning.specs.Lists.{run}
 use Rattle.meaning.specs.Model.{Model, edge, vertex, pointOf, curve, surface}
-use Rattle.meaning.specs.Faults.{ofEdge, Asked, about, Finding, skipped, onlyIf, faultOn, geometryError, offCurve, curveTest, pointOnSurface, sampleTest, sampleAt}
+use Rattle.meaning.specs.Faults.{ofEdge, Asked, about, Finding, onlyIf, faultOn, geometryError, offCurve, curveTest, pointOnSurface, sampleTest, sampleAt}
 use Rattle.points.specs.Points.{curveFindings, surfaceFindings, sampleFindings}
 
 -- ---- a query's answer, read back
@@ -88,22 +85,6 @@ error-refused a n (suc m) l r = ap (λ k. geometryError a k l) (r .number)
 pub error-none : (a : Asked) (n : ℕ) (l : List Finding) → n ≡ 0 → geometryError a n l ≡ l
 unfolding geometryError
 error-none a n l e = ap (λ k. geometryError a k l) e
-
-pub error-skipped : (a : Asked) (n : ℕ) → n ≡ 7 → geometryError a n [] ≡ skipped ∷ []
-unfolding geometryError
-error-skipped a n e = ap (λ k. geometryError a k []) e
-
-pub error-missing : (a : Asked) (n : ℕ) → n ≡ 2 → geometryError a n [] ≡ faultOn 25 a ∷ []
-unfolding geometryError
-error-missing a n e = ap (λ k. geometryError a k []) e
-
-pub error-other : (a : Asked) (n : ℕ) → 0 < n → (n ≡ 7 → ⊥) → (n ≡ 2 → ⊥) → geometryError a n [] ≡ faultOn 26 a ∷ []
-unfolding geometryError
-error-other a zero h p q = absurd (omega arith)
-error-other a (suc n) h p q =
-    let six : eqb n 6 ≡ false = ne-eqb n 6 (λ e. p (ap suc e)) in
-    let one : eqb n 1 ≡ false = ne-eqb n 1 (λ e. q (ap suc e)) in
-    rw (six, one)
 
 -- ---- the two arms of each test: "7 is a check not made", "2 is reason 25, any other refusal is reason 26", or what the value says
 

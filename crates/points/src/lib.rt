@@ -1,10 +1,10 @@
-// Points held against curves and surfaces, what is found of it logged (`geometry_error`, `point_on_surface` and parts of `fin_geometry`
-// of gensolid-check's lib.rs). Tables 6 and 7 stand for the classes edge and vertex.
-use numbers::Sign;
+// Points held against curves and surfaces, what is found of it logged (`point_on_surface` and parts of `fin_geometry` of
+// gensolid-check's lib.rs). Tables 6 and 7 stand for the classes edge and vertex.
 use reasons::Tally;
-use reasons::note;
 use reasons::note_if;
-use reasons::skip;
+use remarks::geometry_error;
+use remarks::note_off_curve;
+use remarks::sample_at;
 use signs::off_curve;
 use store::Evaluated;
 use store::Found;
@@ -14,39 +14,10 @@ use store::distance_to_surface;
 use store::eval_curve;
 use store::project_to_curve;
 use vectors::vector::Point3;
-ghost use mathlib.Core.Path.{_≡_};
-ghost use mathlib.Core.List.{[]};
 ghost use Prim.Native.Nat.{_≤_, _<_};
-ghost use Rattle.meaning.specs.Faults.{about, geometryError, offCurve, sampleAt};
+ghost use Rattle.meaning.specs.Faults.{about};
 ghost use Rattle.reasons.specs.Log.{classAt, Noted, Enough};
 ghost use Rattle.points.specs.Points.{curveFindings, surfaceFindings, sampleFindings, samplesFindings};
-
-// A query's refusal: 7 is a check not made, 2 is reason 25, any other is reason 26.
-fn geometry_error(nums: &mut [u32], t: Tally, n: u32, asked: u32, id: u32) -> Tally
-    requires { ⌜ (0 < n) × (asked < 8) ⌝ }
-    requires { ⌜ Enough t (geometryError (about (classAt asked) id) n []) ⌝ }
-    ensures { λ r. ⌜ Noted (geometryError (about (classAt asked) id) n []) (now (nums .entry)) t (now (nums .exit)) r ⌝ }
-{
-    if n == 7 {
-        return skip(t);
-    }
-    if n == 2 {
-        return note(nums, t, 25, asked, id);
-    }
-    note(nums, t, 26, asked, id)
-}
-
-fn note_off_curve(nums: &mut [u32], t: Tally, sign: Sign, v: u32) -> Tally
-    requires { ⌜ Enough t (offCurve sign v) ⌝ }
-    ensures { λ r. ⌜ Noted (offCurve sign v) (now (nums .entry)) t (now (nums .exit)) r ⌝ }
-{
-    match sign {
-        Sign::Negative => t,
-        Sign::Zero => t,
-        Sign::Positive => note(nums, t, 22, 0, v),
-        Sign::Unresolved => skip(t),
-    }
-}
 
 // The vertex v at p against the curve of the edge e, with the tolerances of both.
 pub fn curve_test(
@@ -108,14 +79,6 @@ fn sample_test(
         Evaluated::Refused(n) => geometry_error(nums, t, n, 6, e),
         Evaluated::At(p) => point_on_surface(nums, t, surface, p, tolerance, 24, 6, e),
     }
-}
-
-// The parameter of sample k of n.
-fn sample_at(t0: f64, t1: f64, n: u32, k: u32) -> f64
-    requires { ⌜ n ≤ 255 ⌝ }
-    ensures { λ r. ⌜ r ≡ sampleAt t0 t1 n k ⌝ }
-{
-    t0 + (t1 - t0) * (k as f64) / ((n + 1) as f64)
 }
 
 // n samples of the edge e between two parameters.

@@ -1,9 +1,9 @@
--- `points::sample_at` meets its contract. Assumes nothing.
+-- `remarks::sample_at` meets its contract. Assumes nothing.
 use Rattle.meaning.specs.Faults.{sampleAt}
 use native.Mathlib.Numerals.{add-one}
 use borrow.Author.Needs.{needs}
-use Rattle.points.proofs.sample_at.Statement.{statement}
-use Rattle.points.proofs.sample_at.Tie as tie
+use Rattle.remarks.proofs.sample_at.Statement.{statement}
+use Rattle.remarks.proofs.sample_at.Tie as tie
 
 int-to-float-result : tie.Need-int-to-float-result
 int-to-float-result c = search needs

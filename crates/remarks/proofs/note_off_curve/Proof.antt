@@ -1,10 +1,10 @@
--- `points::note_off_curve` meets its contract: sign by sign. Assumes nothing.
+-- `remarks::note_off_curve` meets its contract: sign by sign. Assumes nothing.
 use Rattle.reasons.specs.Laws.{enough-same, noted-none, noted-same}
 use Rattle.meaning.specs.Faults.{offCurve}
 use mathlib.Core.Path.{sym, ap}
 use borrow.Author.Needs.{needs}
-use Rattle.points.proofs.note_off_curve.Statement.{statement}
-use Rattle.points.proofs.note_off_curve.Tie as tie
+use Rattle.remarks.proofs.note_off_curve.Statement.{statement}
+use Rattle.remarks.proofs.note_off_curve.Tie as tie
 
 enum-told : tie.Need-enum-told
 enum-told c = search needs

@@ -1,13 +1,13 @@
--- `points::geometry_error` meets its contract: by the refusal. Assumes nothing.
-use Rattle.points.specs.Laws.{error-skipped, error-missing, error-other}
+-- `remarks::geometry_error` meets its contract: by the refusal. Assumes nothing.
+use Rattle.remarks.specs.Laws.{error-skipped, error-missing, error-other}
 use Rattle.reasons.specs.Laws.{enough-same, noted-same}
 use Rattle.reasons.specs.Log.{classAt}
 use Rattle.meaning.specs.Faults.{about}
 use native.Mathlib.Omega.{arith}
 use mathlib.Core.Path.{sym}
 use borrow.Author.Needs.{needs}
-use Rattle.points.proofs.geometry_error.Statement.{statement}
-use Rattle.points.proofs.geometry_error.Tie as tie
+use Rattle.remarks.proofs.geometry_error.Statement.{statement}
+use Rattle.remarks.proofs.geometry_error.Tie as tie
 
 skip-requires : tie.Need-skip-requires
 skip-requires c κs = let s = c .before .before in enough-same (error-skipped (about (classAt (s .args .asked)) (s .args .id)) (s .args .n) (c .if1 .taken)) (s .pre .1)
