@@ -16,7 +16,8 @@ use Rattle.geometry.specs.Geometry.{linePoint, nearest, planeDistance, effectiv
 use Rattle.store.specs.declared.Carrier.the-variants as Carriers
 use Rattle.store.specs.declared.Found.{Found}
 use Rattle.store.specs.declared.Found.the-variants.{There, Missing}
-use Rattle.store.specs.Queries.{theLine, thePlane, evalRefusal, projectRefusal, distanceRefusal}
+use Rattle.store.specs.Queries.{theLine, thePlane}
+use Rattle.queried.specs.Queries.{evalRefusal, projectRefusal, distanceRefusal}
 use Rattle.signs.specs.Signs.{offCurveS}
 use Rattle.meaning.specs.Lists.{run, member, joined, rotated, the, isSome, is, same}
 use Rattle.meaning.specs.Floats.{_/ᶠ_, real}

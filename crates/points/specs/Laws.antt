@@ -13,14 +13,15 @@ use Rattle.vectors.specs.declared.vector.Point3.{Point3}
 use Rattle.geometry.specs.Refuse.{answer}
 use Rattle.geometry.specs.Geometry.{linePoint, planeDistance, effective}
 use Rattle.store.specs.declared.Found.{Found}
-use Rattle.store.specs.declared.Evaluated.{Evaluated}
-use Rattle.store.specs.declared.Evaluated.the-variants as Evaluations
-use Rattle.store.specs.declared.CurveProjection.{CurveProjection}
-use Rattle.store.specs.declared.Projected.{Projected}
-use Rattle.store.specs.declared.Projected.the-variants as Projections
-use Rattle.store.specs.declared.Measured.{Measured}
-use Rattle.store.specs.declared.Measured.the-variants as Measures
-use Rattle.store.specs.Queries.{theLine, thePlane, evalRefusal, projectRefusal, distanceRefusal, evalCurve, projection, projectToCurve, distanceToSurface}
+use Rattle.queried.specs.declared.Evaluated.{Evaluated}
+use Rattle.queried.specs.declared.Evaluated.the-variants as Evaluations
+use Rattle.queried.specs.declared.CurveProjection.{CurveProjection}
+use Rattle.queried.specs.declared.Projected.{Projected}
+use Rattle.queried.specs.declared.Projected.the-variants as Projections
+use Rattle.queried.specs.declared.Measured.{Measured}
+use Rattle.queried.specs.declared.Measured.the-variants as Measures
+use Rattle.store.specs.Queries.{theLine, thePlane}
+use Rattle.queried.specs.Queries.{evalRefusal, projectRefusal, distanceRefusal, evalCurve, projection, projectToCurve, distanceToSurface}
 use Rattle.signs.specs.Signs.{offCurveS}
 use Rattle.meaning.specs.Lists.{run}
 use Rattle.meaning.specs.Model.{Model, edge, vertex, pointOf, curve, surface}

@@ -6,7 +6,8 @@ use lib.Ieee.{Float, lt}
 use Rattle.vectors.specs.declared.vector.Point3.{Point3}
 use Rattle.geometry.specs.Geometry.{linePoint, nearest, planeDistance}
 use Rattle.store.specs.declared.Found.{Found}
-use Rattle.store.specs.Queries.{theLine, thePlane, evalRefusal, projectRefusal, distanceRefusal}
+use Rattle.store.specs.Queries.{theLine, thePlane}
+use Rattle.queried.specs.Queries.{evalRefusal, projectRefusal, distanceRefusal}
 use Rattle.signs.specs.Signs.{offCurveS}
 use Rattle.meaning.specs.Lists.{run, joined}
 use Rattle.meaning.specs.Faults.{ofEdge, Asked, about, Finding, onlyIf, faultOn, geometryError, offCurve, sampleAt}

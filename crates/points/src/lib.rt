@@ -1,18 +1,18 @@
 // Points held against curves and surfaces, what is found of it logged (`point_on_surface` and parts of `fin_geometry` of
 // gensolid-check's lib.rs). Tables 6 and 7 stand for the classes edge and vertex.
+use queried::Evaluated;
+use queried::Measured;
+use queried::Projected;
+use queried::distance_to_surface;
+use queried::eval_curve;
+use queried::project_to_curve;
 use reasons::Tally;
 use reasons::note_if;
 use remarks::geometry_error;
 use remarks::note_off_curve;
 use remarks::sample_at;
 use signs::off_curve;
-use store::Evaluated;
 use store::Found;
-use store::Measured;
-use store::Projected;
-use store::distance_to_surface;
-use store::eval_curve;
-use store::project_to_curve;
 use vectors::vector::Point3;
 ghost use Prim.Native.Nat.{_≤_, _<_};
 ghost use Rattle.meaning.specs.Faults.{about};

@@ -6,12 +6,12 @@ use geometry::surface::Plane;
 use geometry::tolerance::Tolerance;
 use numbers::Interval;
 use numbers::Sign;
+use queried::Evaluated;
+use queried::Measured;
+use queried::Projected;
 use ranges::Interval3;
 use store::Carrier;
-use store::Evaluated;
 use store::Found;
-use store::Measured;
-use store::Projected;
 use vectors::vector::Point3;
 use vectors::vector::Vec3;
 
@@ -234,21 +234,21 @@ fn geometry_op(op: u32, x: &[f64; 12], out: &mut [f64; 6]) -> u32 {
 }
 
 fn evaluated(curve: Found, t: f64, out: &mut [f64; 6]) -> u32 {
-    match store::eval_curve(curve, t) {
+    match queried::eval_curve(curve, t) {
         Evaluated::At(p) => put_point(out, p),
         Evaluated::Refused(n) => n,
     }
 }
 
 fn projected(curve: Found, p: Point3, out: &mut [f64; 6]) -> u32 {
-    match store::project_to_curve(curve, p) {
+    match queried::project_to_curve(curve, p) {
         Projected::At(w) => put_projection(out, w.param, w.point),
         Projected::Refused(n) => n,
     }
 }
 
 fn measured(surface: Found, p: Point3, out: &mut [f64; 6]) -> u32 {
-    match store::distance_to_surface(surface, p) {
+    match queried::distance_to_surface(surface, p) {
         Measured::Is(d) => put(out, d),
         Measured::Refused(n) => n,
     }

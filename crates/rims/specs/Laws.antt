@@ -10,10 +10,11 @@ use lib.Dec.{eqb}
 use lib.Ieee.{Float}
 use Rattle.geometry.specs.Geometry.{nearest, effective}
 use Rattle.store.specs.declared.Found.{Found}
-use Rattle.store.specs.declared.CurveProjection.{CurveProjection}
-use Rattle.store.specs.declared.Projected.{Projected}
-use Rattle.store.specs.declared.Projected.the-variants as Projections
-use Rattle.store.specs.Queries.{theLine, projectRefusal, projection, projectToCurve}
+use Rattle.queried.specs.declared.CurveProjection.{CurveProjection}
+use Rattle.queried.specs.declared.Projected.{Projected}
+use Rattle.queried.specs.declared.Projected.the-variants as Projections
+use Rattle.store.specs.Queries.{theLine}
+use Rattle.queried.specs.Queries.{projectRefusal, projection, projectToCurve}
 use Rattle.meaning.specs.Lists.{run, the, isSome, listed, joined}
 use Rattle.meaning.specs.Model.{Model, has, edge, vertex, pointOf, curve, surface}
 use Rattle.meaning.specs.Faults.{Finding, skipped, onlyIf, endTests, projected, sampleTest, sampleTests, sampleAt, carried, isOther, otherRing, curveTest, pointOnSurface}

@@ -9,7 +9,8 @@ use lib.Ieee.{Float}
 use Rattle.vectors.specs.declared.vector.Point3.{Point3}
 use Rattle.geometry.specs.Geometry.{nearest, effective}
 use Rattle.store.specs.declared.Found.{Found}
-use Rattle.store.specs.Queries.{theLine, projectRefusal}
+use Rattle.store.specs.Queries.{theLine}
+use Rattle.queried.specs.Queries.{projectRefusal}
 use Rattle.meaning.specs.Lists.{isSome, listed, joined}
 use Rattle.meaning.specs.Model.{Model, has, vertex, pointOf}
 use Rattle.meaning.specs.Faults.{ofVertex, about, Finding, skipped, onlyIf, isOther}

@@ -1,10 +1,10 @@
--- `store::eval_line` meets its contract: what its calls ensure, and which way the test went. Assumes nothing.
+-- `queried::eval_line` meets its contract: what its calls ensure, and which way the test went. Assumes nothing.
 use Rattle.vectors.specs.Space.{finitePoint}
-use Rattle.store.specs.declared.Evaluated.the-variants as Evaluations
-use Rattle.store.specs.Laws.{passes, fails}
+use Rattle.queried.specs.declared.Evaluated.the-variants as Evaluations
+use Rattle.queried.specs.Laws.{passes, fails}
 use borrow.Author.Needs.{needs}
-use Rattle.store.proofs.eval_line.Statement.{statement}
-use Rattle.store.proofs.eval_line.Tie as tie
+use Rattle.queried.proofs.eval_line.Statement.{statement}
+use Rattle.queried.proofs.eval_line.Tie as tie
 
 eval-requires : tie.Need-eval-requires
 eval-requires c κs = search needs

@@ -1,14 +1,15 @@
--- `store::eval_curve` meets its contract: which way the tests went, and what the record is. Assumes nothing.
+-- `queried::eval_curve` meets its contract: which way the tests went, and what the record is. Assumes nothing.
 use mathlib.Core.Path.{_≡_, sym, ap, _∙_}
 use mathlib.Core.Bool.{true, false}
 use borrow.Author.Tests.{not-true, not-false}
 use lib.Ieee.Scale.{finite}
-use Rattle.store.specs.declared.Evaluated.the-variants as Evaluations
-use Rattle.store.specs.Queries.{lineRefusal, theLine, lineAnswer, evalCurve}
+use Rattle.queried.specs.declared.Evaluated.the-variants as Evaluations
+use Rattle.store.specs.Queries.{lineRefusal, theLine, lineAnswer}
+use Rattle.queried.specs.Queries.{evalCurve}
 use Rattle.store.specs.Laws.{line-refused, line-given}
 use borrow.Author.Needs.{needs}
-use Rattle.store.proofs.eval_curve.Statement.{statement}
-use Rattle.store.proofs.eval_curve.Tie as tie
+use Rattle.queried.proofs.eval_curve.Statement.{statement}
+use Rattle.queried.proofs.eval_curve.Tie as tie
 
 is-finite-requires : tie.Need-is-finite-requires
 is-finite-requires c κs = search needs

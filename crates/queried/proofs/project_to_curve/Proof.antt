@@ -1,14 +1,15 @@
--- `store::project_to_curve` meets its contract: which way the tests went, and what the record is. Assumes nothing.
+-- `queried::project_to_curve` meets its contract: which way the tests went, and what the record is. Assumes nothing.
 use mathlib.Core.Path.{_≡_, sym, ap, _∙_}
 use mathlib.Core.Bool.{true, false}
 use borrow.Author.Tests.{not-true, not-false}
 use Rattle.vectors.specs.Space.{finitePoint}
-use Rattle.store.specs.declared.Projected.the-variants as Projections
-use Rattle.store.specs.Queries.{lineRefusal, theLine, lineAnswer, projectToCurve}
+use Rattle.queried.specs.declared.Projected.the-variants as Projections
+use Rattle.store.specs.Queries.{lineRefusal, theLine, lineAnswer}
+use Rattle.queried.specs.Queries.{projectToCurve}
 use Rattle.store.specs.Laws.{line-refused, line-given}
 use borrow.Author.Needs.{needs}
-use Rattle.store.proofs.project_to_curve.Statement.{statement}
-use Rattle.store.proofs.project_to_curve.Tie as tie
+use Rattle.queried.proofs.project_to_curve.Statement.{statement}
+use Rattle.queried.proofs.project_to_curve.Tie as tie
 
 is-finite-requires : tie.Need-is-finite-requires
 is-finite-requires c κs = search needs

@@ -1,9 +1,9 @@
--- `store::project_to_line` meets its contract: what its calls ensure, and which way the tests went. Assumes nothing.
+-- `queried::project_to_line` meets its contract: what its calls ensure, and which way the tests went. Assumes nothing.
 use borrow.Author.Tests.{not-true, not-false}
-use Rattle.store.specs.Laws.{no-parameter, no-point, a-point}
+use Rattle.queried.specs.Laws.{no-parameter, no-point, a-point}
 use borrow.Author.Needs.{needs}
-use Rattle.store.proofs.project_to_line.Statement.{statement}
-use Rattle.store.proofs.project_to_line.Tie as tie
+use Rattle.queried.proofs.project_to_line.Statement.{statement}
+use Rattle.queried.proofs.project_to_line.Tie as tie
 
 closest-param-requires : tie.Need-closest-param-requires
 closest-param-requires c κs = search needs

@@ -1,10 +1,10 @@
--- `store::distance_to_plane` meets its contract: what its calls ensure, and which way the test went. Assumes nothing.
+-- `queried::distance_to_plane` meets its contract: what its calls ensure, and which way the test went. Assumes nothing.
 use lib.Ieee.Scale.{finite}
-use Rattle.store.specs.declared.Measured.the-variants as Measures
-use Rattle.store.specs.Laws.{passes, fails}
+use Rattle.queried.specs.declared.Measured.the-variants as Measures
+use Rattle.queried.specs.Laws.{passes, fails}
 use borrow.Author.Needs.{needs}
-use Rattle.store.proofs.distance_to_plane.Statement.{statement}
-use Rattle.store.proofs.distance_to_plane.Tie as tie
+use Rattle.queried.proofs.distance_to_plane.Statement.{statement}
+use Rattle.queried.proofs.distance_to_plane.Tie as tie
 
 distance-requires : tie.Need-distance-requires
 distance-requires c κs = search needs

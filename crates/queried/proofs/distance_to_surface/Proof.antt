@@ -1,14 +1,15 @@
--- `store::distance_to_surface` meets its contract: which way the tests went, and what the record is. Assumes nothing.
+-- `queried::distance_to_surface` meets its contract: which way the tests went, and what the record is. Assumes nothing.
 use mathlib.Core.Path.{_≡_, sym, ap, _∙_}
 use mathlib.Core.Bool.{true, false}
 use borrow.Author.Tests.{not-true, not-false}
 use Rattle.vectors.specs.Space.{finitePoint}
-use Rattle.store.specs.declared.Measured.the-variants as Measures
-use Rattle.store.specs.Queries.{planeRefusal, thePlane, planeAnswer, distanceToSurface}
+use Rattle.queried.specs.declared.Measured.the-variants as Measures
+use Rattle.store.specs.Queries.{planeRefusal, thePlane, planeAnswer}
+use Rattle.queried.specs.Queries.{distanceToSurface}
 use Rattle.store.specs.Laws.{plane-refused, plane-given}
 use borrow.Author.Needs.{needs}
-use Rattle.store.proofs.distance_to_surface.Statement.{statement}
-use Rattle.store.proofs.distance_to_surface.Tie as tie
+use Rattle.queried.proofs.distance_to_surface.Statement.{statement}
+use Rattle.queried.proofs.distance_to_surface.Tie as tie
 
 is-finite-requires : tie.Need-is-finite-requires
 is-finite-requires c κs = search needs
