@@ -1,16 +1,17 @@
 -- The operations on intervals (01, "Intervals"; interval.rs), over IEEE 754 as `lib.Ieee` has it. Definitions only.
 -- Those that a caller sees are `unfoldable`: each names its operands several times, and a chain of a dozen would be too long to compute if they opened by themselves.
 use mathlib.Core.Bool.{Bool, true, false, cond, _&&_}
-use lib.IntN.{pos}
-use lib.Ieee.{Float, nan, inf, fin, binary64, isNan, add, sub, mul, neg, lt, le, eq}
+use lib.Ieee.{Float, inf, binary64, isNan, add, sub, mul, neg, lt, le, eq}
 use Rattle.steps.specs.Next.{nextUp, nextDown}
+use Rattle.extremes.specs.Extremes.{leastF, greatestF, squareLow}
+use Rattle.extremes.specs.Extremes as Extremes
 use Rattle.numbers.specs.declared.Interval.{Interval}
 use Rattle.numbers.specs.declared.Sign.{Sign}
 use Rattle.numbers.specs.declared.Sign.the-variants.{Negative, Zero, Positive, Unresolved}
 
 -- +0
 abbrev pub zeroF : Float
-zeroF = fin false 0 (pos 0)
+zeroF = Extremes.zeroF
 
 -- the whole line (`Interval::ENTIRE`)
 abbrev pub entire : Interval
@@ -23,13 +24,6 @@ checkedI lo hi = cond (isNan lo) entire (cond (isNan hi) entire (record { lo = l
 -- 01, "then the low bound moves one float down and the high one up"
 abbrev pub outwardI : Float → Float → Interval
 outwardI lo hi = checkedI (nextDown lo) (nextUp hi)
-
--- the lesser and the greater of two; a NaN where one of them is
-abbrev pub leastF : Float → Float → Float
-leastF a b = cond (le a b) a (cond (le b a) b nan)
-
-abbrev pub greatestF : Float → Float → Float
-greatestF a b = cond (le b a) a (cond (le a b) b nan)
 
 -- 01, "A point has both equal"
 unfoldable pub pointI : Float → Interval
@@ -62,10 +56,6 @@ negI x = checkedI (neg (x .hi)) (neg (x .lo))
 -- `contains`: the value lies between the bounds
 abbrev pub containsI : Interval → Float → Bool
 containsI x v = le (x .lo) v && le v (x .hi)
-
--- 01, "A square spanning zero starts at 0; none's low bound is below 0"
-abbrev pub squareLow : Bool → Float → Float
-squareLow spans q = cond spans zeroF (greatestF (nextDown q) zeroF)
 
 unfoldable pub sqrI : Interval → Interval
 sqrI x =

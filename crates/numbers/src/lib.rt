@@ -1,7 +1,10 @@
 // Interval arithmetic with outward rounding (interval.rs): each bound is worked out in floats, rounded to nearest,
 // and then moved one float outward, so that it encloses the exact result (`specs/Enclose.antt`).
 ghost use mathlib.Core.Path.{_≡_};
-ghost use Rattle.numbers.specs.Ops.{checkedI, outwardI, leastF, greatestF, pointI, addI, subI, mulI, negI, containsI, squareLow, sqrI, signOf, signI};
+ghost use Rattle.numbers.specs.Ops.{checkedI, outwardI, pointI, addI, subI, mulI, negI, containsI, sqrI, signOf, signI};
+use extremes::greatest;
+use extremes::least;
+use extremes::square_low;
 use steps::next_down;
 use steps::next_up;
 
@@ -43,42 +46,6 @@ fn outward(lo: f64, hi: f64) -> Interval
     ensures { λ r. ⌜ r ≡ outwardI lo hi ⌝ }
 {
     checked(next_down(lo), next_up(hi))
-}
-
-// The lesser of two, and a NaN where one of them is.
-fn least(a: f64, b: f64) -> f64
-    ensures { λ r. ⌜ r ≡ leastF a b ⌝ }
-{
-    if a <= b {
-        return a;
-    }
-    if b <= a {
-        return b;
-    }
-    0.0 / 0.0
-}
-
-// The greater of two, and a NaN where one of them is.
-fn greatest(a: f64, b: f64) -> f64
-    ensures { λ r. ⌜ r ≡ greatestF a b ⌝ }
-{
-    if b <= a {
-        return a;
-    }
-    if a <= b {
-        return b;
-    }
-    0.0 / 0.0
-}
-
-// The low bound of a square: 0 where it spans zero, else from q, the lesser of its ends' squares.
-fn square_low(spans: bool, q: f64) -> f64
-    ensures { λ r. ⌜ r ≡ squareLow spans q ⌝ }
-{
-    if spans {
-        return 0.0;
-    }
-    greatest(next_down(q), 0.0)
 }
 
 fn sign_of(lo: f64, hi: f64) -> Sign

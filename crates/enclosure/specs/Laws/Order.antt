@@ -12,7 +12,7 @@ use lib.Ieee.Fits.{down-pos, and-l, and-r}
 use lib.Ieee.Exact.{HasValue}
 use lib.Ieee.Order.{transfer}
 use Rattle.steps.specs.Next.{INF, TOP, nextUp, nextDown}
-use Rattle.numbers.specs.Ops.{leastF, greatestF}
+use Rattle.extremes.specs.Extremes.{leastF, greatestF}
 use Rattle.enclosure.specs.Value.{ONE}
 use Rattle.enclosure.specs.Laws.Small.{le-or-lt, or-split}
 use Rattle.enclosure.specs.Laws.Pairs.{plus, minus, Lower, Upper}

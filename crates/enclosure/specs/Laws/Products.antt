@@ -12,7 +12,8 @@ use lib.Ieee.Fits.{cond-fits, nan-fits, neg-fits, mul-fits, eq→eqb, up-pos, do
 use lib.Ieee.Scale.{finite}
 use Rattle.numbers.specs.declared.Interval.{Interval}
 use Rattle.steps.specs.Next.{INF, TOP, nextUp, nextDown}
-use Rattle.numbers.specs.Ops.{zeroF, leastF, greatestF, least4, greatest4, onProducts, checkedI, mulI, squareLow, sqrI}
+use Rattle.extremes.specs.Extremes.{leastF, greatestF}
+use Rattle.numbers.specs.Ops.{zeroF, least4, greatest4, onProducts, checkedI, mulI, sqrI}
 use Rattle.enclosure.specs.Value.{ONE, units}
 use Rattle.enclosure.specs.Laws.Small.{le-or-lt, in-top, neg-neg}
 use Rattle.enclosure.specs.Laws.Pairs.{plus, minus, Lower, Upper, In}

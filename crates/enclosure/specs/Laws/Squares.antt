@@ -14,7 +14,8 @@ use Rattle.numbers.specs.declared.Interval.{Interval}
 use Rattle.numbers.specs.declared.Sign.{Sign}
 use Rattle.numbers.specs.declared.Sign.the-variants.{Negative, Zero, Positive, Unresolved}
 use Rattle.steps.specs.Next.{INF, nextUp, nextDown}
-use Rattle.numbers.specs.Ops.{zeroF, leastF, greatestF, squareLow, sqrI, pickSign, signOf, signI}
+use Rattle.extremes.specs.Extremes.{leastF, greatestF, squareLow}
+use Rattle.numbers.specs.Ops.{zeroF, sqrI, pickSign, signOf, signI}
 use Rattle.enclosure.specs.Value.{ONE, units}
 use Rattle.enclosure.specs.Laws.Small.{le-or-lt, or-left, or-right}
 use Rattle.enclosure.specs.Laws.Pairs.{plus, minus, Lower, Upper, In}

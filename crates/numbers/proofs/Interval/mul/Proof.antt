@@ -1,7 +1,8 @@
 -- `numbers::Interval::mul` meets its contract: what its calls ensure, put together, is `mulI`. Assumes nothing.
 use mathlib.Core.Path.{ap₂, _∙_}
 use borrow.Author.Needs.{needs}
-use Rattle.numbers.specs.Ops.{outwardI, leastF, greatestF, mulI}
+use Rattle.extremes.specs.Extremes.{leastF, greatestF}
+use Rattle.numbers.specs.Ops.{outwardI, mulI}
 use Rattle.numbers.proofs.Interval.mul.Statement.{statement}
 use Rattle.numbers.proofs.Interval.mul.Tie as tie
 

@@ -3,7 +3,8 @@ use mathlib.Core.Path.{ap, ap₂, _∙_}
 use borrow.Author.Needs.{needs}
 use lib.Ieee.{ofBits}
 use Rattle.steps.specs.Next.{nextUp}
-use Rattle.numbers.specs.Ops.{checkedI, squareLow, sqrI}
+use Rattle.extremes.specs.Extremes.{squareLow}
+use Rattle.numbers.specs.Ops.{checkedI, sqrI}
 use Rattle.numbers.proofs.Interval.sqr.Statement.{statement}
 use Rattle.numbers.proofs.Interval.sqr.Tie as tie
 

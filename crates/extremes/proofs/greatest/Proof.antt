@@ -1,7 +1,7 @@
--- `numbers::greatest` meets its contract: each arm returns what `greatestF` picks where its tests are as the arm found them. Assumes nothing.
+-- `extremes::greatest` meets its contract: each arm returns what `greatestF` picks where its tests are as the arm found them. Assumes nothing.
 use lib.Ieee.{div, ofBits}
-use Rattle.numbers.proofs.greatest.Statement.{statement}
-use Rattle.numbers.proofs.greatest.Tie as tie
+use Rattle.extremes.proofs.greatest.Statement.{statement}
+use Rattle.extremes.proofs.greatest.Tie as tie
 
 returns : tie.Need-returns
 returns c = rw (c .if1 .taken)

@@ -1,7 +1,7 @@
--- `numbers::least` meets its contract: each arm returns what `leastF` picks where its tests are as the arm found them. Assumes nothing.
+-- `extremes::least` meets its contract: each arm returns what `leastF` picks where its tests are as the arm found them. Assumes nothing.
 use lib.Ieee.{div, ofBits}
-use Rattle.numbers.proofs.least.Statement.{statement}
-use Rattle.numbers.proofs.least.Tie as tie
+use Rattle.extremes.proofs.least.Statement.{statement}
+use Rattle.extremes.proofs.least.Tie as tie
 
 returns : tie.Need-returns
 returns c = rw (c .if1 .taken)

@@ -1,10 +1,10 @@
--- `numbers::square_low` meets its contract: each arm returns what `squareLow` picks where its test is as the arm found it. Assumes nothing.
+-- `extremes::square_low` meets its contract: each arm returns what `squareLow` picks where its test is as the arm found it. Assumes nothing.
 use mathlib.Core.Path.{ap, _∙_}
 use borrow.Author.Needs.{needs}
 use lib.Ieee.{Float, ofBits}
-use Rattle.numbers.specs.Ops.{zeroF, greatestF}
-use Rattle.numbers.proofs.square_low.Statement.{statement}
-use Rattle.numbers.proofs.square_low.Tie as tie
+use Rattle.extremes.specs.Extremes.{zeroF, greatestF}
+use Rattle.extremes.proofs.square_low.Statement.{statement}
+use Rattle.extremes.proofs.square_low.Tie as tie
 
 returns : tie.Need-returns
 unfolding ofBits
