@@ -1,8 +1,8 @@
 // Making an empty model, and the core of every insert and edit: fields and floats of one record, by its table
 // (model.rs, `Model::new`, `RawEditor`). `specs/Answers.antt` says what they answer and leave.
+use allowed::precision_ok;
 use legible::lent;
 use legible::readable;
-use tested::precision_ok;
 use writes::put::put_new;
 use writes::put::put_reals;
 use writes::put::put_words;

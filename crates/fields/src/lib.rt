@@ -83,7 +83,7 @@ pub fn tolerance_ok(tolerance: Tolerance) -> bool
 {
     match tolerance {
         Tolerance::Session => true,
-        Tolerance::Own(t) => tested::tolerance_ok(t),
+        Tolerance::Own(t) => allowed::tolerance_ok(t),
     }
 }
 

@@ -1,11 +1,11 @@
 // The test of refusal 9: the capacities, the lent memory and the used counts agree, and every used record passes its own test.
+use allowed::precision_ok;
 use model::layout::real_at;
 use model::layout::real_stride;
 use model::layout::reals_needed;
 use model::layout::word_at;
 use model::layout::word_stride;
 use model::layout::words_needed;
-use tested::precision_ok;
 use tested::record_ok;
 ghost use mathlib.Core.Path.{_≡_};
 ghost use Prim.Native.Nat.{_+_, _*_, _<_, _≤_};

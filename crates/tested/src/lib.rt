@@ -1,55 +1,17 @@
 // Whether a record is one that refusal 9 lets through: it is tested by its own words and floats. `specs/Readable.antt` of `model` has the tests.
-use vectors::vector::is_finite;
+use allowed::body_ok;
+use allowed::own_ok;
+use allowed::region_ok;
+use allowed::shell_ok;
 ghost use mathlib.Core.Path.{_≡_};
 ghost use mathlib.Core.Bool.{_&&_};
 ghost use Prim.Native.Nat.{_<_, _≤_};
 ghost use lib.Dec.{leb};
 ghost use mathlib.Core.List.{[]};
 ghost use lib.ListN.{length};
-ghost use Rattle.meaning.specs.Edits.{toleranceOk, precisionOk};
-ghost use Rattle.geometry.specs.declared.tolerance.Tolerance.the-variants.{Own};
 ghost use Rattle.model.specs.Layout.{wordStrides, word};
-ghost use Rattle.model.specs.Readable.{bodyOk, regionOk, shellOk, faceOk, loopOk, finOk, ownOk, edgeOk, vertexOk, carrierOk, recordOk};
+ghost use Rattle.model.specs.Readable.{faceOk, loopOk, finOk, edgeOk, vertexOk, carrierOk, recordOk};
 ghost use Rattle.model.specs.Fit.{Whole};
-
-pub fn tolerance_ok(t: f64) -> bool
-    ensures { λ r. ⌜ r ≡ toleranceOk (Own t) ⌝ }
-{
-    is_finite(t) & (0.0 <= t)
-}
-
-pub fn precision_ok(p: f64) -> bool
-    ensures { λ r. ⌜ r ≡ precisionOk p ⌝ }
-{
-    is_finite(p) & (0.0 < p)
-}
-
-fn own_ok(tag: u32, t: f64) -> bool
-    ensures { λ r. ⌜ r ≡ ownOk tag t ⌝ }
-{
-    (tag == 0) | tolerance_ok(t)
-}
-
-fn body_ok(w: &[u32]) -> bool
-    requires { ⌜ length (now w) ≡ 18 ⌝ }
-    ensures { λ r. ⌜ r ≡ bodyOk (now (w .entry)) ⌝ }
-{
-    (w[0] <= 4) & (w[1] <= 16)
-}
-
-fn region_ok(w: &[u32]) -> bool
-    requires { ⌜ length (now w) ≡ 19 ⌝ }
-    ensures { λ r. ⌜ r ≡ regionOk (now (w .entry)) ⌝ }
-{
-    (w[1] <= 1) & (w[2] <= 16)
-}
-
-fn shell_ok(w: &[u32]) -> bool
-    requires { ⌜ length (now w) ≡ 836 ⌝ }
-    ensures { λ r. ⌜ r ≡ shellOk (now (w .entry)) ⌝ }
-{
-    (w[1] <= 512) & (w[514] <= 256) & (w[771] <= 64)
-}
 
 // The four tags that a face has, and an edge: three optional ids, then a sense or an optional tolerance.
 fn marked(w: &[u32]) -> bool

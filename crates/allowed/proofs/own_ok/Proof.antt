@@ -1,7 +1,7 @@
--- `tested::own_ok` meets its contract. Assumes nothing.
+-- `allowed::own_ok` meets its contract. Assumes nothing.
 use borrow.Author.Needs.{needs}
-use Rattle.tested.proofs.own_ok.Statement.{statement}
-use Rattle.tested.proofs.own_ok.Tie as tie
+use Rattle.allowed.proofs.own_ok.Statement.{statement}
+use Rattle.allowed.proofs.own_ok.Tie as tie
 
 tolerance-ok-requires : tie.Need-tolerance-ok-requires
 tolerance-ok-requires c κs = search needs

@@ -1,8 +1,8 @@
--- `tested::tolerance_ok` meets its contract. Assumes nothing.
+-- `allowed::tolerance_ok` meets its contract. Assumes nothing.
 use lib.Ieee.{ofBits}
 use borrow.Author.Needs.{needs}
-use Rattle.tested.proofs.tolerance_ok.Statement.{statement}
-use Rattle.tested.proofs.tolerance_ok.Tie as tie
+use Rattle.allowed.proofs.tolerance_ok.Statement.{statement}
+use Rattle.allowed.proofs.tolerance_ok.Tie as tie
 
 is-finite-requires : tie.Need-is-finite-requires
 is-finite-requires c κs = search needs

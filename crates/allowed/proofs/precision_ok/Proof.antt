@@ -1,8 +1,8 @@
--- `tested::precision_ok` meets its contract. Assumes nothing.
+-- `allowed::precision_ok` meets its contract. Assumes nothing.
 use lib.Ieee.{ofBits}
 use borrow.Author.Needs.{needs}
-use Rattle.tested.proofs.precision_ok.Statement.{statement}
-use Rattle.tested.proofs.precision_ok.Tie as tie
+use Rattle.allowed.proofs.precision_ok.Statement.{statement}
+use Rattle.allowed.proofs.precision_ok.Tie as tie
 
 is-finite-requires : tie.Need-is-finite-requires
 is-finite-requires c κs = search needs

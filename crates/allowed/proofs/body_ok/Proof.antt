@@ -1,8 +1,8 @@
--- `tested::body_ok` meets its contract. Assumes nothing.
+-- `allowed::body_ok` meets its contract. Assumes nothing.
 use mathlib.Core.Path.{refl}
 use borrow.Author.Needs.{needs}
-use Rattle.tested.proofs.body_ok.Statement.{statement}
-use Rattle.tested.proofs.body_ok.Tie as tie
+use Rattle.allowed.proofs.body_ok.Statement.{statement}
+use Rattle.allowed.proofs.body_ok.Tie as tie
 
 shared-slice-read-result : tie.Need-shared-slice-read-result
 shared-slice-read-result c = search needs
