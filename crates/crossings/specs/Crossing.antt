@@ -7,8 +7,8 @@ use Rattle.model.specs.declared.entries.Entry.{Entry}
 use Rattle.model.specs.declared.entries.Entry.the-variants as Entries
 use Rattle.edits.specs.declared.Inserted.{Inserted}
 use Rattle.edits.specs.declared.Inserted.the-variants as Inserts
-use Rattle.lookup.specs.declared.PrecisionFound.{PrecisionFound}
-use Rattle.lookup.specs.declared.PrecisionFound.the-variants as Precisions
+use Rattle.present.specs.declared.PrecisionFound.{PrecisionFound}
+use Rattle.present.specs.declared.PrecisionFound.the-variants as Precisions
 use Rattle.entity.specs.declared.records.Body.{Body}
 use Rattle.lookup.specs.declared.BodyFound.{BodyFound}
 use Rattle.lookup.specs.declared.BodyFound.the-variants as Bodies
@@ -35,8 +35,8 @@ use Rattle.lookup.specs.declared.VertexFound.{VertexFound}
 use Rattle.lookup.specs.declared.VertexFound.the-variants as Vertices
 use Rattle.lookup.specs.declared.CarrierFound.{CarrierFound}
 use Rattle.lookup.specs.declared.CarrierFound.the-variants as Carriers
-use Rattle.lookup.specs.declared.Contained.{Contained}
-use Rattle.lookup.specs.declared.Contained.the-variants as Contents
+use Rattle.present.specs.declared.Contained.{Contained}
+use Rattle.present.specs.declared.Contained.the-variants as Contents
 use Rattle.bounds.specs.declared.Bounds.{Bounds}
 use Rattle.bounds.specs.declared.Bounds.the-variants as Ranges
 use Rattle.tips.specs.declared.Tips.{Tips}

@@ -12,8 +12,8 @@ use Rattle.model.specs.Layout.{word, real}
 use Rattle.model.specs.Decode.{maybeAt, flagAt, senseOf, kindOf, toleranceOf, pointAt, carrierOf}
 use Rattle.model.specs.Readable.{readable}
 use Rattle.entity.specs.declared.records.Ref.{Ref}
-use Rattle.lookup.specs.declared.EntityRef.{EntityRef}
-use Rattle.lookup.specs.declared.EntityRef.the-variants as Entities
+use Rattle.present.specs.declared.EntityRef.{EntityRef}
+use Rattle.present.specs.declared.EntityRef.the-variants as Entities
 use Rattle.entity.specs.Seen.{seenRef, seenKind, seenSense}
 use Rattle.fields.specs.Fields.{bodyFields, regionFields, shellFields, faceFields, loopFields, finFields, edgeFields, vertexFields, carrierFields, edgeFloats, vertexFloats, carrierFloats}
 

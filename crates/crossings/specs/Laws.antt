@@ -7,7 +7,7 @@ use native.Mathlib.Omega.{arith}
 use lib.Ieee.{Float}
 use Rattle.geometry.specs.Refuse.{_unless_, _then_, answer}
 use Rattle.model.specs.Readable.{readable}
-use Rattle.lookup.specs.declared.EntityRef.the-variants.{Vertex}
+use Rattle.present.specs.declared.EntityRef.the-variants.{Vertex}
 use Rattle.frame.specs.Put.{unlessRefused}
 use Rattle.edits.specs.declared.Inserted.the-variants.{At, Refused}
 use Rattle.edits.specs.Answers.{insertNumber, insertAnswer, insertWords, insertReals, editNumber, editWords, editReals}

@@ -1,7 +1,7 @@
 // The fields of a record as a C program hands them over: the numbers of `values`, without the lists. `specs/Given.antt` says
 // which fields they name.
 use legible::readable;
-use lookup::EntityRef;
+use present::EntityRef;
 use vectors::vector::Point3;
 ghost use mathlib.Core.Path.{_≡_};
 ghost use Prim.Native.Nat.{_<_};

@@ -1,43 +1,12 @@
--- What the functions behind the lookups answer, by the number of the table. No reader of a public promise needs this file. Definitions only.
+-- What the function behind the lookups of curves and surfaces answers, by the number of the table. No reader of a public promise needs this file. Definitions only.
 use Prim.Native.Nat.{ℕ}
 use mathlib.Core.List.{List}
-use lib.Dec.{ltb}
 use lib.Ieee.{Float}
-use Rattle.geometry.specs.Refuse.{_unless_, _then_}
-use Rattle.model.specs.Layout.{word}
 use Rattle.model.specs.Decode.{table, carrierOf}
-use Rattle.model.specs.Readable.{readable}
 use Rattle.lookup.specs.declared.CarrierFound.{CarrierFound}
 use Rattle.lookup.specs.declared.CarrierFound.the-variants as Carriers
-use Rattle.lookup.specs.declared.EntityRef.{EntityRef}
-use Rattle.lookup.specs.declared.EntityRef.the-variants as Entities
 use Rattle.lookup.specs.Lookup.{looked}
 
 module _ (room w : List ℕ) (x : List Float) where
-  -- the refusal of record i of table k
-  abbrev pub refusalAt : ℕ → ℕ → ℕ
-  refusalAt k i = 9 unless readable room w x then 2 unless ltb i (word w k)
-
   unfoldable pub carrierAnswer : ℕ → ℕ → CarrierFound
   carrierAnswer k = looked room w x Carriers.Is Carriers.Refused (λ c. c) (table room w x k carrierOf)
-
--- an entity as its table and its id
-unfoldable pub tableOf : EntityRef → ℕ
-tableOf (Entities.Body i) = 0
-tableOf (Entities.Region i) = 1
-tableOf (Entities.Shell i) = 2
-tableOf (Entities.Face i) = 3
-tableOf (Entities.Loop i) = 4
-tableOf (Entities.Fin i) = 5
-tableOf (Entities.Edge i) = 6
-tableOf (Entities.Vertex i) = 7
-
-unfoldable pub idOf : EntityRef → ℕ
-idOf (Entities.Body i) = i
-idOf (Entities.Region i) = i
-idOf (Entities.Shell i) = i
-idOf (Entities.Face i) = i
-idOf (Entities.Loop i) = i
-idOf (Entities.Fin i) = i
-idOf (Entities.Edge i) = i
-idOf (Entities.Vertex i) = i

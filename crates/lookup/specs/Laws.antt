@@ -11,16 +11,11 @@ use Rattle.geometry.specs.Refuse.{_unless_, _then_, answer}
 use Rattle.meaning.specs.Model.{Table}
 use Rattle.lists.specs.Tests.{refused-answer}
 use Rattle.model.specs.Layout.{word}
-use Rattle.model.specs.Decode.{decode}
 use Rattle.model.specs.Readable.{readable}
 use Rattle.model.specs.Fit.{Fit}
 use Rattle.model.specs.Laws.{fit-of}
-use Rattle.lookup.specs.declared.EntityRef.{EntityRef}
-use Rattle.lookup.specs.declared.EntityRef.the-variants as Entities
-use Rattle.lookup.specs.Lookup.{contained, lookupRefusal, looked}
-use Rattle.lookup.specs.Inner.{refusalAt, tableOf, idOf}
-
--- ---- a lookup
+use Rattle.present.specs.Inner.{refusalAt}
+use Rattle.lookup.specs.Lookup.{lookupRefusal, looked}
 
 passed : (a b : Bool) → 9 unless a then 2 unless b ≡ 0 → (a ≡ true) × (b ≡ true)
 passed true true e = (refl, refl)
@@ -41,26 +36,3 @@ module _ (room w : List ℕ) (x : List Float) {R B A : Type 0} (is : B → A) (r
 
   pub look-given : (r : B) → m ≡ 0 → r ≡ seen (t .slot i) → is r ≡ looked room w x is refused seen t i
   look-given r z h = subst (λ (n : ℕ). is r ≡ answer is refused n (seen (t .slot i))) (sym z ∙ e) (ap is h)
-
--- an entity's table is one of the first eight, and the entity exists where its id is below that table's count
-pub table-small : (e : EntityRef) → tableOf e < 8
-unfolding tableOf
-table-small (Entities.Body i) = omega arith
-table-small (Entities.Region i) = omega arith
-table-small (Entities.Shell i) = omega arith
-table-small (Entities.Face i) = omega arith
-table-small (Entities.Loop i) = omega arith
-table-small (Entities.Fin i) = omega arith
-table-small (Entities.Edge i) = omega arith
-table-small (Entities.Vertex i) = omega arith
-
-pub contained-at : (room w : List ℕ) (x : List Float) (e : EntityRef) → ltb (idOf e) (word w (tableOf e)) ≡ contained (decode room w x) e
-unfolding decode tableOf idOf
-contained-at room w x (Entities.Body i) = refl
-contained-at room w x (Entities.Region i) = refl
-contained-at room w x (Entities.Shell i) = refl
-contained-at room w x (Entities.Face i) = refl
-contained-at room w x (Entities.Loop i) = refl
-contained-at room w x (Entities.Fin i) = refl
-contained-at room w x (Entities.Edge i) = refl
-contained-at room w x (Entities.Vertex i) = refl

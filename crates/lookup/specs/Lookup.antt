@@ -1,10 +1,9 @@
 -- What the lookups answer (model.rs; 01, "lookups"), of the model that the lent memory holds. Definitions only.
 use Prim.Native.Nat.{ℕ}
-use mathlib.Core.Bool.{Bool}
 use mathlib.Core.List.{List}
 use lib.Ieee.{Float}
 use Rattle.geometry.specs.Refuse.{_unless_, _then_, answer}
-use Rattle.meaning.specs.Model.{Model, Table, has}
+use Rattle.meaning.specs.Model.{Table, has}
 use Rattle.model.specs.Decode.{decode}
 use Rattle.model.specs.Readable.{readable}
 use Rattle.entity.specs.Seen.{seenBody, seenRegion, seenShell, seenFace, seenLoop, seenFin, seenEdge, seenVertex}
@@ -26,23 +25,6 @@ use Rattle.lookup.specs.declared.VertexFound.{VertexFound}
 use Rattle.lookup.specs.declared.VertexFound.the-variants as Vertices
 use Rattle.lookup.specs.declared.CarrierFound.{CarrierFound}
 use Rattle.lookup.specs.declared.CarrierFound.the-variants as Carriers
-use Rattle.lookup.specs.declared.PrecisionFound.{PrecisionFound}
-use Rattle.lookup.specs.declared.PrecisionFound.the-variants as Precisions
-use Rattle.lookup.specs.declared.Contained.{Contained}
-use Rattle.lookup.specs.declared.Contained.the-variants as Contents
-use Rattle.lookup.specs.declared.EntityRef.{EntityRef}
-use Rattle.lookup.specs.declared.EntityRef.the-variants as Entities
-
--- `contains`: whether the entity exists
-abbrev pub contained : Model → EntityRef → Bool
-contained m (Entities.Body i) = has (m .bodies) i
-contained m (Entities.Region i) = has (m .regions) i
-contained m (Entities.Shell i) = has (m .shells) i
-contained m (Entities.Face i) = has (m .faces) i
-contained m (Entities.Loop i) = has (m .loops) i
-contained m (Entities.Fin i) = has (m .fins) i
-contained m (Entities.Edge i) = has (m .edges) i
-contained m (Entities.Vertex i) = has (m .vertices) i
 
 module _ (room w : List ℕ) (x : List Float) where
   -- "Every call tests 9 first"; "2: a named or needed record does not exist" (`lookup`)
@@ -82,9 +64,3 @@ module _ (room w : List ℕ) (x : List Float) where
 
   unfoldable pub surfaceAnswer : ℕ → CarrierFound
   surfaceAnswer = looked Carriers.Is Carriers.Refused (λ c. c) (decode room w x .surfaces)
-
-  unfoldable pub precisionAnswer : PrecisionFound
-  precisionAnswer = answer Precisions.Is Precisions.Refused (9 unless readable room w x) (decode room w x .precision)
-
-  unfoldable pub containsAnswer : EntityRef → Contained
-  containsAnswer e = answer Contents.Is Contents.Refused (9 unless readable room w x) (contained (decode room w x) e)

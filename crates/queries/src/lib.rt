@@ -7,15 +7,15 @@ use crossings::tags::entity_of;
 use crossings::tags::unknown_tag;
 use crossings::values::mark_value;
 use crossings::values::tips_value;
-use lookup::Contained;
-use lookup::PrecisionFound;
 use model::entries::Entry;
+use present::Contained;
+use present::PrecisionFound;
 use tips::FinVertices;
 ghost use mathlib.Core.Path.{_≡_};
 ghost use mathlib.Core.Bool.{cond};
 ghost use lib.Dec.{ltb};
 ghost use Rattle.model.specs.Entries.{entryAnswer};
-ghost use Rattle.lookup.specs.Lookup.{precisionAnswer, containsAnswer};
+ghost use Rattle.present.specs.Answers.{precisionAnswer, containsAnswer};
 ghost use Rattle.bounds.specs.Answers.{boundsAnswer};
 ghost use Rattle.tips.specs.Answers.{finVerticesAnswer};
 ghost use Rattle.crossings.specs.Crossing.{precisionNumber, precisionSlots, entryNumber, entrySlots, containedNumber, containedSlots, tipsNumber, tipsSlots, rangeNumber, rangeSlots};
@@ -26,7 +26,7 @@ pub fn precision(room: &[usize; 10], words: &[u32], reals: &[f64], value: &mut [
     ensures answer { λ r. ⌜ r ≡ precisionNumber (precisionAnswer (now (room .entry)) (now (words .entry)) (now (reals .entry))) ⌝ }
     ensures slots { λ _. ⌜ now (value .exit) ≡ precisionSlots (precisionAnswer (now (room .entry)) (now (words .entry)) (now (reals .entry))) (now (value .entry)) ⌝ }
 {
-    match lookup::precision(room, words, reals) {
+    match present::precision(room, words, reals) {
         PrecisionFound::Is(p) => {
             *value = [p];
             0
@@ -73,7 +73,7 @@ pub fn contains(
         return unknown_tag(room, words, reals);
     }
     let entity = entity_of(class, id);
-    match lookup::contains(room, words, reals, entity) {
+    match present::contains(room, words, reals, entity) {
         Contained::Is(yes) => {
             *value = mark_value(yes);
             0

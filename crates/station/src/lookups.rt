@@ -2,7 +2,8 @@
 ghost use mathlib.Core.Path.{_≡_};
 ghost use mathlib.Core.Bool.{cond};
 ghost use lib.Dec.{ltb};
-ghost use Rattle.lookup.specs.Lookup.{bodyAnswer, regionAnswer, shellAnswer, faceAnswer, loopAnswer, finAnswer, edgeAnswer, vertexAnswer, curveAnswer, surfaceAnswer, containsAnswer};
+ghost use Rattle.lookup.specs.Lookup.{bodyAnswer, regionAnswer, shellAnswer, faceAnswer, loopAnswer, finAnswer, edgeAnswer, vertexAnswer, curveAnswer, surfaceAnswer};
+ghost use Rattle.present.specs.Answers.{containsAnswer};
 ghost use Rattle.crossings.specs.Crossing.{bodyNumber, bodySlots, regionNumber, regionSlots, shellNumber, shellSlots, faceNumber, faceSlots, loopNumber, loopSlots, finNumber, finSlots, edgeNumber, edgeSlots, edgeReals, vertexNumber, vertexSlots, vertexReals, carrierNumber, carrierSlots, carrierReals, containedNumber, containedSlots};
 ghost use Rattle.crossings.specs.Given.{tagNumber, entityOf};
 

@@ -1,7 +1,7 @@
 // Making an empty model, and its precision.
 ghost use mathlib.Core.Path.{_≡_};
 ghost use Rattle.edits.specs.Answers.{makeNumber, makeWords, makeReals};
-ghost use Rattle.lookup.specs.Lookup.{precisionAnswer};
+ghost use Rattle.present.specs.Answers.{precisionAnswer};
 ghost use Rattle.crossings.specs.Crossing.{precisionNumber, precisionSlots};
 
 // An empty model with its precision.

@@ -1,4 +1,4 @@
--- `lookup::precision` meets its contract. Assumes nothing.
+-- `present::precision` meets its contract. Assumes nothing.
 use mathlib.Core.Path.{_≡_, sym, _∙_}
 use mathlib.Core.Bool.{true, false}
 use native.Mathlib.Omega.{arith}
@@ -6,11 +6,11 @@ use borrow.Author.Tests.{not-true, not-false}
 use Rattle.model.specs.Readable.{readable}
 use Rattle.model.specs.Laws.{fit-of}
 use Rattle.model.specs.Decode.{decode}
-use Rattle.lookup.specs.Lookup.{precisionAnswer}
+use Rattle.present.specs.Answers.{precisionAnswer}
 use Rattle.entity.specs.Laws.{precision-there}
 use borrow.Author.Needs.{needs}
-use Rattle.lookup.proofs.precision.Statement.{statement}
-use Rattle.lookup.proofs.precision.Tie as tie
+use Rattle.present.proofs.precision.Statement.{statement}
+use Rattle.present.proofs.precision.Tie as tie
 
 readable-requires : tie.Need-readable-requires
 readable-requires c κs = search needs

@@ -1,9 +1,9 @@
--- `lookup::table_of` meets its contract, case by case. Assumes nothing.
+-- `present::table_of` meets its contract, case by case. Assumes nothing.
 use mathlib.Core.Path.{sym, ap}
-use Rattle.lookup.specs.Inner.{tableOf}
+use Rattle.present.specs.Inner.{tableOf}
 use borrow.Author.Needs.{needs}
-use Rattle.lookup.proofs.table_of.Statement.{statement}
-use Rattle.lookup.proofs.table_of.Tie as tie
+use Rattle.present.proofs.table_of.Statement.{statement}
+use Rattle.present.proofs.table_of.Tie as tie
 
 enum-told : tie.Need-enum-told
 enum-told c = search needs

@@ -1,9 +1,9 @@
--- `lookup::id_of` meets its contract, case by case. Assumes nothing.
+-- `present::id_of` meets its contract, case by case. Assumes nothing.
 use mathlib.Core.Path.{sym, ap}
-use Rattle.lookup.specs.Inner.{idOf}
+use Rattle.present.specs.Inner.{idOf}
 use borrow.Author.Needs.{needs}
-use Rattle.lookup.proofs.id_of.Statement.{statement}
-use Rattle.lookup.proofs.id_of.Tie as tie
+use Rattle.present.proofs.id_of.Statement.{statement}
+use Rattle.present.proofs.id_of.Tie as tie
 
 enum-known-entity : tie.Need-enum-known-entity
 enum-known-entity c = search needs

@@ -1,17 +1,17 @@
--- `lookup::contains` meets its contract. Assumes nothing.
+-- `present::contains` meets its contract. Assumes nothing.
 use mathlib.Core.Path.{_≡_, sym, ap, _∙_}
 use mathlib.Core.Bool.{true, false}
 use native.Mathlib.Omega.{arith}
 use borrow.Author.Tests.{not-true, not-false}
 use Rattle.model.specs.Readable.{readable}
 use Rattle.model.specs.Laws.{fit-of}
-use Rattle.lookup.specs.declared.Contained.the-variants.{Is}
-use Rattle.lookup.specs.Lookup.{containsAnswer}
+use Rattle.present.specs.declared.Contained.the-variants.{Is}
+use Rattle.present.specs.Answers.{containsAnswer}
 use Rattle.entity.specs.Laws.{counts-there}
-use Rattle.lookup.specs.Laws.{table-small, contained-at}
+use Rattle.present.specs.Laws.{table-small, contained-at}
 use borrow.Author.Needs.{needs}
-use Rattle.lookup.proofs.contains.Statement.{statement}
-use Rattle.lookup.proofs.contains.Tie as tie
+use Rattle.present.proofs.contains.Statement.{statement}
+use Rattle.present.proofs.contains.Tie as tie
 
 readable-requires : tie.Need-readable-requires
 readable-requires c κs = search needs

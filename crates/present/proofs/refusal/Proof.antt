@@ -1,4 +1,4 @@
--- `lookup::refusal` meets its contract: each way out is the first test that fails. Assumes nothing.
+-- `present::refusal` meets its contract: each way out is the first test that fails. Assumes nothing.
 use mathlib.Core.Path.{_≡_, sym, _∙_}
 use mathlib.Core.Bool.{true, false}
 use native.Mathlib.Omega.{arith}
@@ -9,8 +9,8 @@ use Rattle.model.specs.Readable.{readable}
 use Rattle.model.specs.Laws.{fit-of}
 use Rattle.entity.specs.Laws.{counts-there}
 use borrow.Author.Needs.{needs}
-use Rattle.lookup.proofs.refusal.Statement.{statement}
-use Rattle.lookup.proofs.refusal.Tie as tie
+use Rattle.present.proofs.refusal.Statement.{statement}
+use Rattle.present.proofs.refusal.Tie as tie
 
 readable-requires : tie.Need-readable-requires
 readable-requires c κs = search needs

@@ -1,0 +1,37 @@
+-- The refusal of a lookup by the number of its table, and the table of an entity. No reader of a public promise needs this
+-- file. Definitions only.
+use Prim.Native.Nat.{ℕ}
+use mathlib.Core.List.{List}
+use lib.Dec.{ltb}
+use lib.Ieee.{Float}
+use Rattle.geometry.specs.Refuse.{_unless_, _then_}
+use Rattle.model.specs.Layout.{word}
+use Rattle.model.specs.Readable.{readable}
+use Rattle.present.specs.declared.EntityRef.{EntityRef}
+use Rattle.present.specs.declared.EntityRef.the-variants as Entities
+
+module _ (room w : List ℕ) (x : List Float) where
+  -- the refusal of record i of table k
+  abbrev pub refusalAt : ℕ → ℕ → ℕ
+  refusalAt k i = 9 unless readable room w x then 2 unless ltb i (word w k)
+
+-- an entity as its table and its id
+unfoldable pub tableOf : EntityRef → ℕ
+tableOf (Entities.Body i) = 0
+tableOf (Entities.Region i) = 1
+tableOf (Entities.Shell i) = 2
+tableOf (Entities.Face i) = 3
+tableOf (Entities.Loop i) = 4
+tableOf (Entities.Fin i) = 5
+tableOf (Entities.Edge i) = 6
+tableOf (Entities.Vertex i) = 7
+
+unfoldable pub idOf : EntityRef → ℕ
+idOf (Entities.Body i) = i
+idOf (Entities.Region i) = i
+idOf (Entities.Shell i) = i
+idOf (Entities.Face i) = i
+idOf (Entities.Loop i) = i
+idOf (Entities.Fin i) = i
+idOf (Entities.Edge i) = i
+idOf (Entities.Vertex i) = i
