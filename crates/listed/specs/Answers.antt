@@ -1,25 +1,18 @@
 -- What editing a list answers, and what it leaves in the lent memory (model.rs, `RawEditor`; 01, "Edits and appended entries give 1, then 2 (edited record missing),
 -- 1 for a list place that isn't there, then 8"). The lists are those of `model`, by number; an entry may name no record. Definitions only.
-use Prim.Native.Nat.{ℕ, suc, _+_}
+use Prim.Native.Nat.{ℕ, _+_}
 use mathlib.Core.Bool.{true}
-use mathlib.Core.List.{List, [], _∷_, _++_}
+use mathlib.Core.List.{List}
 use lib.Dec.{ltb}
-use lib.ListN.{length, take, drop, set}
+use lib.ListN.{length, set}
 use lib.Ieee.{Float}
 use Rattle.geometry.specs.Refuse.{_unless_, _then_}
 use Rattle.meaning.specs.Edits.{editRefusal, appended}
 use Rattle.model.specs.Layout.{word, wordAt}
 use Rattle.model.specs.Readable.{readable}
 use Rattle.model.specs.Entries.{listTables, listPlaces, listLimits, listOf, entryRefusal}
-use Rattle.frame.specs.Put.{over, unlessRefused}
-
--- a list without the entry at a place
-unfoldable pub struck : List ℕ → ℕ → List ℕ
-struck l place = take place l ++ drop (suc place) l
-
--- words with l as the list at a place: its length, its entries, and behind them what stood there
-unfoldable pub withList : ℕ → List ℕ → List ℕ → List ℕ
-withList at l w = over at (length l ∷ l) w
+use Rattle.frame.specs.Put.{unlessRefused}
+use Rattle.amended.specs.Place.{struck, withList}
 
 -- where list j of record i stands among the words
 unfoldable pub startOf : List ℕ → ℕ → ℕ → ℕ

@@ -19,7 +19,7 @@ use Rattle.model.specs.Readable.{ownOk, recordOk}
 use Rattle.model.specs.Entries.{listTables, listPlaces, listLimits}
 use Rattle.frame.specs.Put.{over}
 use Rattle.frame.specs.Over.{entry-before, entry-behind, entry-written, drop-at-over, part-before, part-behind}
-use Rattle.listed.specs.Answers.{withList}
+use Rattle.amended.specs.Place.{withList}
 
 module _ (at : ℕ) (l w : List ℕ) (fits : at + suc (length l) ≤ length w) where
   -- the words before and behind the list, and its length

@@ -19,7 +19,8 @@ use Rattle.frame.specs.Put.{putWords, putReals}
 use Rattle.frame.specs.Over.{length-over, over-same}
 use Rattle.frame.specs.Change.{SameModel, withRecord}
 use Rattle.frame.specs.Kept.{readable-of, model-put, fit-put}
-use Rattle.listed.specs.Answers.{struck, withList, listWords, putEntryWords, strikeEntryWords, appendNumber, appendEntryWords}
+use Rattle.amended.specs.Place.{struck, withList}
+use Rattle.listed.specs.Answers.{listWords, putEntryWords, strikeEntryWords, appendNumber, appendEntryWords}
 use Rattle.listed.specs.Laws.{list-put, append-open}
 use Rattle.listed.specs.Records.{still-ok}
 

@@ -1,10 +1,8 @@
 // Editing the eight lists: an entry put, appended or struck (model.rs, `RawEditor`). `specs/Answers.antt` says what each call
 // answers and leaves.
-pub mod part;
-
-use crate::part::append_at;
-use crate::part::put_at;
-use crate::part::strike_at;
+use amended::append_at;
+use amended::put_at;
+use amended::strike_at;
 use legible::readable;
 use listing::entry_refusal;
 use listing::list;

@@ -18,7 +18,7 @@ use Rattle.model.specs.Decode.{listAt, edgeOf}
 use Rattle.model.specs.Readable.{ownOk, edgeOk}
 use Rattle.frame.specs.Put.{over}
 use Rattle.frame.specs.Over.{length-over, part-behind, entry-before, entry-behind, entry-written}
-use Rattle.listed.specs.Answers.{withList}
+use Rattle.amended.specs.Place.{withList}
 use Rattle.listed.specs.Records.{edge-list, word-before, word-length}
 use Rattle.beside.specs.Laws.{over-behind}
 use Rattle.pieces.specs.Pieces.{secondFields}

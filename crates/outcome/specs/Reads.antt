@@ -21,7 +21,7 @@ use Rattle.model.specs.Laws.{before-tables, words-length, used-inside}
 use Rattle.frame.specs.Put.{over, putReals}
 use Rattle.frame.specs.Over.{length-over, part-behind, entry-before, entry-behind, entry-written}
 use Rattle.frame.specs.Frame.{length-put, put-there, put-elsewhere, put-before}
-use Rattle.listed.specs.Answers.{withList}
+use Rattle.amended.specs.Place.{withList}
 use Rattle.listed.specs.Records.{word-length, word-behind}
 use Rattle.beside.specs.Beside.{entriesFor, doubled}
 use Rattle.pieces.specs.Pieces.{finWords, newFin, secondFields, countsPut, floatsPut}

@@ -5,7 +5,8 @@ use mathlib.Core.List.{List}
 use Rattle.meaning.specs.Edits.{appended}
 use Rattle.model.specs.Laws.{lists-of}
 use Rattle.frame.specs.Kept.{refused-keeps}
-use Rattle.listed.specs.Answers.{withList, startOf, listWords, appendNumber, appendEntryWords}
+use Rattle.amended.specs.Place.{withList}
+use Rattle.listed.specs.Answers.{startOf, listWords, appendNumber, appendEntryWords}
 use Rattle.listed.specs.Laws.{start-held, start-list, start-small, start-entries, start-room, append-open}
 use borrow.Author.Needs.{needs}
 use Rattle.listed.proofs.append_entry.Statement.{statement}

@@ -6,7 +6,8 @@ use lib.ListN.{set}
 use Rattle.model.specs.Entries.{entryRefusal}
 use Rattle.model.specs.Laws.{lists-of, entry-standing}
 use Rattle.frame.specs.Kept.{refused-keeps}
-use Rattle.listed.specs.Answers.{withList, startOf, listWords, putEntryWords}
+use Rattle.amended.specs.Place.{withList}
+use Rattle.listed.specs.Answers.{startOf, listWords, putEntryWords}
 use Rattle.listed.specs.Laws.{start-held, start-list, start-small, start-entries}
 use borrow.Author.Needs.{needs}
 use Rattle.listed.proofs.put_entry.Statement.{statement}

@@ -5,7 +5,8 @@ use mathlib.Core.List.{List}
 use Rattle.model.specs.Entries.{entryRefusal}
 use Rattle.model.specs.Laws.{lists-of, entry-standing}
 use Rattle.frame.specs.Kept.{refused-keeps}
-use Rattle.listed.specs.Answers.{struck, withList, startOf, listWords, strikeEntryWords}
+use Rattle.amended.specs.Place.{struck, withList}
+use Rattle.listed.specs.Answers.{startOf, listWords, strikeEntryWords}
 use Rattle.listed.specs.Laws.{start-held, start-list, start-small, start-entries}
 use borrow.Author.Needs.{needs}
 use Rattle.listed.proofs.strike_entry.Statement.{statement}

@@ -1,9 +1,9 @@
--- `listed::part::append_at` meets its contract. Assumes nothing.
+-- `amended::append_at` meets its contract. Assumes nothing.
 use native.Mathlib.Omega.{arith}
-use Rattle.listed.specs.Laws.{append-turn}
+use Rattle.amended.specs.Laws.{append-turn}
 use borrow.Author.Needs.{needs}
-use Rattle.listed.proofs.part.append_at.Statement.{statement}
-use Rattle.listed.proofs.part.append_at.Tie as tie
+use Rattle.amended.proofs.append_at.Statement.{statement}
+use Rattle.amended.proofs.append_at.Tie as tie
 
 mul-n : tie.Need-mul-n
 mul-n c = search needs

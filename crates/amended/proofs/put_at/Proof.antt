@@ -1,8 +1,8 @@
--- `listed::part::put_at` meets its contract. Assumes nothing.
-use Rattle.listed.specs.Laws.{put-turn}
+-- `amended::put_at` meets its contract. Assumes nothing.
+use Rattle.amended.specs.Laws.{put-turn}
 use borrow.Author.Needs.{needs}
-use Rattle.listed.proofs.part.put_at.Statement.{statement}
-use Rattle.listed.proofs.part.put_at.Tie as tie
+use Rattle.amended.proofs.put_at.Statement.{statement}
+use Rattle.amended.proofs.put_at.Tie as tie
 
 add-w : tie.Need-add-w
 add-w c = search needs

@@ -1,13 +1,13 @@
--- `listed::part::strike_at` meets its contract: a turn of the loop moves one entry. Assumes nothing.
+-- `amended::strike_at` meets its contract: a turn of the loop moves one entry. Assumes nothing.
 use Prim.Native.Nat.{ℕ, _+_, _≤_, _-_}
 use native.Mathlib.Omega.{arith}
 use mathlib.Core.Path.{_≡_, refl, ap, _∙_}
 use mathlib.Core.List.{List}
 use lib.ListN.{length, set, length-set}
 use Rattle.model.specs.Layout.{word}
-use Rattle.listed.specs.Laws.{moved, strike-none, strike-turn, strike-end}
-use Rattle.listed.proofs.part.strike_at.Statement.{statement}
-use Rattle.listed.proofs.part.strike_at.Tie as tie
+use Rattle.amended.specs.Laws.{moved, strike-none, strike-turn, strike-end}
+use Rattle.amended.proofs.strike_at.Statement.{statement}
+use Rattle.amended.proofs.strike_at.Tie as tie
 
 abbrev Inv-loop : tie.InvT-loop
 Inv-loop w₀ at place n from behind m₀ w m = (m ≤ behind) × (length w ≡ length w₀) × (w ≡ moved w₀ at place m)

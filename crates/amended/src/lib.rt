@@ -1,4 +1,4 @@
-// The list at a place of one record: its length, then its entries.
+// The list at a place of the words, its length, then its entries: an entry put, appended or struck.
 ghost use mathlib.Core.Path.{_≡_};
 ghost use Prim.Native.Nat.{_+_, _<_};
 ghost use lib.ListN.{length, set};
@@ -6,7 +6,7 @@ ghost use Rattle.meaning.specs.Edits.{appended};
 ghost use Rattle.model.specs.Layout.{word};
 ghost use Rattle.model.specs.Decode.{listAt};
 ghost use Rattle.model.specs.Fit.{Held};
-ghost use Rattle.listed.specs.Answers.{struck, withList};
+ghost use Rattle.amended.specs.Place.{struck, withList};
 
 pub fn put_at(w: &mut [u32], at: usize, place: usize, id: u32)
     requires { ⌜ Held (now w) at × (place < word (now w) at) ⌝ }
