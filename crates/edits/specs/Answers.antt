@@ -1,33 +1,20 @@
--- What making a model, inserting and editing answer, and what they leave in the lent memory (model.rs, `Model::new`, `RawEditor`;
+-- What inserting and editing answer, and what they leave in the lent memory (model.rs, `RawEditor`;
 -- 01, "Every call tests 9 first. Inserts check no reference and give 1 before 8. Edits .. give 1, then 2 (edited record missing)"). Definitions only.
 use Prim.Native.Nat.{ℕ}
 use mathlib.Core.Bool.{Bool, true}
-use mathlib.Core.List.{List, [], _∷_}
+use mathlib.Core.List.{List}
 use lib.Dec.{ltb}
-use lib.ListN.{replicate}
 use lib.Ieee.{Float}
 use Rattle.geometry.specs.Refuse.{_unless_, _then_, answer}
-use Rattle.meaning.specs.Edits.{precisionOk, insertRefusal, editRefusal}
+use Rattle.meaning.specs.Edits.{insertRefusal, editRefusal}
 use Rattle.model.specs.Layout.{word, wordsOf}
 use Rattle.model.specs.Decode.{table}
-use Rattle.model.specs.Readable.{lentOk, readable}
+use Rattle.model.specs.Readable.{readable}
 use Rattle.frame.specs.Put.{over, putWords, putReals, newWords, counted, unlessRefused}
 use Rattle.edits.specs.declared.Inserted.{Inserted}
 use Rattle.edits.specs.declared.Inserted.the-variants.{At, Refused}
 
 module _ (room w : List ℕ) (x : List Float) where
-  -- ---- an empty model with its precision: what is lent must hold the tables, whatever stands in it
-
-  unfoldable pub makeNumber : Float → ℕ
-  makeNumber p = 9 unless lentOk room w x then 1 unless precisionOk p
-
-  -- no record is used
-  unfoldable pub makeWords : Float → List ℕ
-  makeWords p = unlessRefused (makeNumber p) (over 0 (replicate 10 0) w) w
-
-  unfoldable pub makeReals : Float → List Float
-  makeReals p = unlessRefused (makeNumber p) (over 0 (p ∷ []) x) x
-
   -- ---- a record more in table k: ok where its values are, f its fields, s its floats
 
   unfoldable pub insertNumber : Bool → ℕ → ℕ

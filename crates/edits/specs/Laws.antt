@@ -1,26 +1,20 @@
 -- The tests of an insert and of an edit, as facts. Assumes nothing.
 use Prim.Native.Nat.{ℕ, _<_}
-use mathlib.Core.Path.{_≡_, refl, sym, _∙_}
-use mathlib.Core.Bool.{Bool, true, false}
+use mathlib.Core.Path.{_≡_}
+use mathlib.Core.Bool.{Bool}
 use mathlib.Core.List.{List}
 use lib.Dec.{ltb}
 use lib.Ieee.{Float}
-use borrow.Author.Tests.{ltb-true, lt-ltb, le-ltb}
+use borrow.Author.Tests.{ltb-true}
 use Rattle.geometry.specs.Refuse.{_unless_, _then_}
-use Rattle.meaning.specs.Edits.{precisionOk}
 use Rattle.lists.specs.Tests.{then-zero, unless-zero}
 use Rattle.model.specs.Layout.{word}
-use Rattle.model.specs.Readable.{lentOk, readable}
-use Rattle.model.specs.Fit.{Lent, Fit}
-use Rattle.model.specs.Laws.{lent-of, fit-of}
-use Rattle.edits.specs.Answers.{makeNumber, insertNumber, editNumber}
+use Rattle.model.specs.Readable.{readable}
+use Rattle.model.specs.Fit.{Fit}
+use Rattle.model.specs.Laws.{fit-of}
+use Rattle.edits.specs.Answers.{insertNumber, editNumber}
 
 module _ (room w : List ℕ) (x : List Float) where
-  -- a model is made
-  pub make-open : (p : Float) → makeNumber room w x p ≡ 0 → Lent room w x
-  unfolding makeNumber
-  make-open p e = lent-of room w x (unless-zero 8 (lentOk room w x) (then-zero (9 unless lentOk room w x) (1 unless precisionOk p) e .0))
-
   -- a record is inserted
   pub insert-open : (ok : Bool) (k : ℕ) → insertNumber room w x ok k ≡ 0 → Fit room w x × (word w k < word room k)
   unfolding insertNumber

@@ -1,4 +1,3 @@
 pub mod Answers
 pub mod Facts
 pub mod Laws
-pub mod Statements

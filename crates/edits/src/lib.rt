@@ -1,49 +1,18 @@
-// Making an empty model, and the core of every insert and edit: fields and floats of one record, by its table
-// (model.rs, `Model::new`, `RawEditor`). `specs/Answers.antt` says what they answer and leave.
-use allowed::precision_ok;
-use legible::lent;
+// The core of every insert and edit: fields and floats of one record, by its table (model.rs, `RawEditor`).
+// `specs/Answers.antt` says what they answer and leave.
 use legible::readable;
 use writes::put::put_new;
 use writes::put::put_reals;
 use writes::put::put_words;
-use writes::write::clear;
 ghost use mathlib.Core.Path.{_≡_};
 ghost use Prim.Native.Nat.{_<_};
-ghost use Rattle.edits.specs.Answers.{makeNumber, makeWords, makeReals, insertNumber, insertAnswer, insertWords, insertReals, editNumber, editWords, editReals};
+ghost use Rattle.edits.specs.Answers.{insertNumber, insertAnswer, insertWords, insertReals, editNumber, editWords, editReals};
 ghost use Rattle.edits.specs.Facts.{Fields};
 
 // The new record's id, or the refusal's number.
 pub enum Inserted {
     At(u32),
     Refused(u32),
-}
-
-// Why no model is made, else 0.
-fn make_refusal(room: &[usize; 10], words: &[u32], reals: &[f64], precision: f64) -> u32
-    ensures { λ r. ⌜ r ≡ makeNumber (now (room .entry)) (now (words .entry)) (now (reals .entry)) precision ⌝ }
-{
-    if !lent(room, words, reals) {
-        return 9;
-    }
-    if !precision_ok(precision) {
-        return 1;
-    }
-    0
-}
-
-// An empty model with its precision: 0, or the refusal's number.
-pub fn make(room: &[usize; 10], words: &mut [u32], reals: &mut [f64], precision: f64) -> u32
-    ensures answer { λ r. ⌜ r ≡ makeNumber (now (room .entry)) (now (words .entry)) (now (reals .entry)) precision ⌝ }
-    ensures tables { λ _. ⌜ now (words .exit) ≡ makeWords (now (room .entry)) (now (words .entry)) (now (reals .entry)) precision ⌝ }
-    ensures floats { λ _. ⌜ now (reals .exit) ≡ makeReals (now (room .entry)) (now (words .entry)) (now (reals .entry)) precision ⌝ }
-{
-    let n = make_refusal(room, &words[..], &reals[..], precision);
-    if n != 0 {
-        return n;
-    }
-    clear(&mut words[..10]);
-    reals[0] = precision;
-    0
 }
 
 // Why no record is inserted into table k, else 0.

@@ -1,6 +1,6 @@
 // Making an empty model, and its precision.
 ghost use mathlib.Core.Path.{_≡_};
-ghost use Rattle.edits.specs.Answers.{makeNumber, makeWords, makeReals};
+ghost use Rattle.blank.specs.Answers.{makeNumber, makeWords, makeReals};
 ghost use Rattle.present.specs.Answers.{precisionAnswer};
 ghost use Rattle.crossings.specs.Crossing.{precisionNumber, precisionSlots};
 
@@ -16,7 +16,7 @@ pub extern "C" fn brunskerl_make(
     ensures tables { λ _. ⌜ now (words .exit) ≡ makeWords (now (room .entry)) (now (words .entry)) (now (reals .entry)) precision ⌝ }
     ensures floats { λ _. ⌜ now (reals .exit) ≡ makeReals (now (room .entry)) (now (words .entry)) (now (reals .entry)) precision ⌝ }
 {
-    edits::make(room, words, reals, precision)
+    blank::make(room, words, reals, precision)
 }
 
 // The session precision.

@@ -1,6 +1,6 @@
 // The trial stone (01, "Trial stone"), laid out by inserts and appended entries, as meaning/specs/Stone.antt has it.
+use blank::make;
 use edits::Inserted;
-use edits::make;
 use entity::records::BodyKind;
 use entity::records::Ref;
 use entity::records::sense_of;

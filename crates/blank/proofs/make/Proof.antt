@@ -1,4 +1,4 @@
--- `edits::make` meets its contract: a refusal writes nothing. Assumes nothing.
+-- `blank::make` meets its contract: a refusal writes nothing. Assumes nothing.
 use native.Mathlib.Omega.{arith}
 use mathlib.Core.Path.{_≡_, sym, ap, _∙_}
 use Rattle.model.specs.Layout.{wordStrides, realStrides}
@@ -8,11 +8,11 @@ use lib.ListN.{length, take, drop, replicate}
 use lib.Seq.{length-take-le, set-split}
 use Rattle.frame.specs.Put.{over}
 use Rattle.frame.specs.Kept.{refused-keeps}
-use Rattle.edits.specs.Answers.{makeNumber, makeWords, makeReals}
-use Rattle.edits.specs.Laws.{make-open}
+use Rattle.blank.specs.Answers.{makeNumber, makeWords, makeReals}
+use Rattle.blank.specs.Laws.{make-open}
 use borrow.Author.Needs.{needs}
-use Rattle.edits.proofs.make.Statement.{statement}
-use Rattle.edits.proofs.make.Tie as tie
+use Rattle.blank.proofs.make.Statement.{statement}
+use Rattle.blank.proofs.make.Tie as tie
 
 make-refusal-requires : tie.Need-make-refusal-requires
 make-refusal-requires c κs = search needs

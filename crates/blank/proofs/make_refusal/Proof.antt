@@ -1,13 +1,13 @@
--- `edits::make_refusal` meets its contract: each way out is the first test that fails. Assumes nothing.
+-- `blank::make_refusal` meets its contract: each way out is the first test that fails. Assumes nothing.
 use mathlib.Core.Path.{_≡_, sym, _∙_}
 use mathlib.Core.Bool.{true, false}
 use borrow.Author.Tests.{not-true, not-false}
 use Rattle.meaning.specs.Edits.{precisionOk}
 use Rattle.model.specs.Readable.{lentOk}
-use Rattle.edits.specs.Answers.{makeNumber}
+use Rattle.blank.specs.Answers.{makeNumber}
 use borrow.Author.Needs.{needs}
-use Rattle.edits.proofs.make_refusal.Statement.{statement}
-use Rattle.edits.proofs.make_refusal.Tie as tie
+use Rattle.blank.proofs.make_refusal.Statement.{statement}
+use Rattle.blank.proofs.make_refusal.Tie as tie
 
 lent-requires : tie.Need-lent-requires
 lent-requires c κs = search needs

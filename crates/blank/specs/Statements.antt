@@ -19,8 +19,8 @@ use Rattle.model.specs.Laws.{before-tables}
 use Rattle.frame.specs.Put.{over}
 use Rattle.frame.specs.Over.{length-over, entry-written}
 use Rattle.frame.specs.Kept.{readable-of}
-use Rattle.edits.specs.Answers.{makeNumber, makeWords, makeReals}
-use Rattle.edits.specs.Laws.{make-open}
+use Rattle.blank.specs.Answers.{makeNumber, makeWords, makeReals}
+use Rattle.blank.specs.Laws.{make-open}
 
 pub record Empty (m : Model) (p : Float) : Type 0 where
   pub precision : m .precision ≡ p
