@@ -1,4 +1,5 @@
 // What is found of a body (`body` of gensolid-check's lib.rs).
+use denials::edges_refusal;
 use entity::records::BodyKind;
 use fetched::body_at;
 use listing::list;
@@ -6,7 +7,6 @@ use manifold::manifold_edges;
 use reasons::Tally;
 use shells::all_regions;
 use shells::region_layout;
-use walks::refusals::edges_refusal;
 ghost use mathlib.Core.Path.{_≡_};
 ghost use mathlib.Core.Bool.{true};
 ghost use Prim.Native.Nat.{_≤_, _<_};

@@ -4,9 +4,9 @@ use checker::check_body;
 use lookup::EdgeFound;
 use lookup::edge;
 use stones::ROOM;
-use walks::walks::write_edges;
-use walks::walks::write_faces;
-use walks::walks::write_vertices;
+use tours::write_edges;
+use tours::write_faces;
+use tours::write_vertices;
 
 // A refused call counts as more than the stone has of anything.
 const REFUSED: u64 = 1000;

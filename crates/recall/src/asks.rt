@@ -14,11 +14,11 @@ use splits::Split;
 use splits::split_line_edge;
 use tips::FinVertices;
 use tips::fin_vertices;
+use tours::write_edges;
+use tours::write_faces;
+use tours::write_vertices;
 use volumes::Volume;
 use volumes::body_volume;
-use walks::walks::write_edges;
-use walks::walks::write_faces;
-use walks::walks::write_vertices;
 
 // A walk: its number, how many ids, and their sum.
 fn walk_faces(room: &[usize; 10], words: &[u32], reals: &[f64], out: &mut [u32], w: Row) -> bool {

@@ -1,7 +1,7 @@
 // The three walks: how many ids were put into the front of the lent list, and the number in a lent slot.
-use walks::walks::write_edges;
-use walks::walks::write_faces;
-use walks::walks::write_vertices;
+use tours::write_edges;
+use tours::write_faces;
+use tours::write_vertices;
 ghost use mathlib.Core.Path.{_≡_};
 ghost use lib.ListN.{length, replicate};
 ghost use Rattle.walks.specs.Calls.{inFront, facesNumber, facesHanded, edgesNumber, edgesHanded, verticesNumber, verticesHanded};

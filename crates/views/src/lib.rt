@@ -1,7 +1,7 @@
 // The walks in their second form: the part of the caller's list that `write_faces` and its like have filled, as a view.
-use walks::walks::write_edges;
-use walks::walks::write_faces;
-use walks::walks::write_vertices;
+use tours::write_edges;
+use tours::write_faces;
+use tours::write_vertices;
 ghost use mathlib.Core.Path.{_≡_};
 ghost use lib.ListN.{length, replicate};
 ghost use Rattle.walks.specs.Calls.{facesNumber, facesHanded, edgesNumber, edgesHanded, verticesNumber, verticesHanded};

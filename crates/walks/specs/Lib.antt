@@ -1,4 +1,3 @@
 pub mod Calls
-pub mod Reach
 pub mod Decoded
 pub mod Laws

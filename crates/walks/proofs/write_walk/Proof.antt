@@ -1,10 +1,10 @@
--- `walks::walks::write_walk` meets its contract. Assumes nothing.
+-- `walks::write_walk` meets its contract. Assumes nothing.
 use mathlib.Core.Path.{ap, _∙_}
 use borrow.Author.Needs.{needs}
 use lib.ListN.{length, replicate, length-replicate}
 use Rattle.walks.specs.Laws.{marked-zeros, wrote-none, wrote-all}
-use Rattle.walks.proofs.walks.write_walk.Statement.{statement}
-use Rattle.walks.proofs.walks.write_walk.Tie as tie
+use Rattle.walks.proofs.write_walk.Statement.{statement}
+use Rattle.walks.proofs.write_walk.Tie as tie
 
 slice-relend-prefix-visit : tie.Need-slice-relend-prefix-visit
 slice-relend-prefix-visit c = search needs

@@ -1,4 +1,4 @@
--- `walks::refusals::edges_refusal` meets its contract: each way out is the first test that fails. Assumes nothing.
+-- `denials::edges_refusal` meets its contract: each way out is the first test that fails. Assumes nothing.
 use mathlib.Core.Path.{_≡_, sym, ap, _∙_}
 use mathlib.Core.Bool.{false, true, _&&_}
 use borrow.Author.Needs.{needs}
@@ -11,10 +11,10 @@ use Rattle.paths.specs.Paths.{facesThere, loopsFollowed}
 use Rattle.paths.specs.Laws.{faced-of}
 use Rattle.lists.specs.Tests.{shut, and-false}
 use Rattle.geometry.specs.Refuse.{_unless_}
 use Rattle.walks.specs.Decoded.{refusedBy}
 use Rattle.walks.specs.Laws.{faces-refusal, edges-refusal, refused-then, refused-before, accepted-faces, marked-zeros}
-use Rattle.walks.proofs.refusals.edges_refusal.Statement.{statement}
-use Rattle.walks.proofs.refusals.edges_refusal.Tie as tie
+use Rattle.denials.proofs.edges_refusal.Statement.{statement}
+use Rattle.denials.proofs.edges_refusal.Tie as tie
 
 faces-refusal-requires : tie.Need-faces-refusal-requires
 faces-refusal-requires c κs = search needs

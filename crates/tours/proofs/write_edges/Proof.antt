@@ -1,4 +1,4 @@
--- `walks::walks::write_edges` meets its contract. Assumes nothing.
+-- `tours::write_edges` meets its contract. Assumes nothing.
 use mathlib.Core.Path.{sym, ap, _∙_}
 use mathlib.Core.Bool.{_&&_}
 use borrow.Author.Needs.{needs}
@@ -9,10 +9,10 @@ use Rattle.model.specs.Decode.{decode}
 use Rattle.model.specs.Readable.{readable}
 use Rattle.paths.specs.Paths.{edgeList}
 use Rattle.paths.specs.Laws.{laid-short, laid-front, sources-front, edge-path-short, edge-sources}
 use Rattle.walks.specs.Calls.{reach, edgesNumber, edgesHanded}
 use Rattle.walks.specs.Laws.{edge-list, edges-refusal, accepted-edges, call-refused, call-written, zeros-on, zeros-same, wrote-along, path-fits, marked-zeros}
-use Rattle.walks.proofs.walks.write_edges.Statement.{statement}
-use Rattle.walks.proofs.walks.write_edges.Tie as tie
+use Rattle.tours.proofs.write_edges.Statement.{statement}
+use Rattle.tours.proofs.write_edges.Tie as tie
 
 element-copy-out-enough : tie.Need-element-copy-out-enough
 element-copy-out-enough c = search needs

@@ -1,4 +1,4 @@
--- `walks::walks::write_vertices` meets its contract. Assumes nothing.
+-- `tours::write_vertices` meets its contract. Assumes nothing.
 use mathlib.Core.Path.{sym, ap, _∙_}
 use mathlib.Core.Bool.{_&&_}
 use native.Mathlib.Nat.{le-trans}
@@ -10,10 +10,10 @@ use Rattle.meaning.specs.Walks.{verticesRefusal, vertexWalk}
 use Rattle.model.specs.Decode.{decode}
 use Rattle.model.specs.Readable.{readable}
 use Rattle.paths.specs.Laws.{laid-short, laid-front, sources-front, vertex-path-short, vertex-sources}
 use Rattle.walks.specs.Calls.{reach, verticesNumber, verticesHanded}
 use Rattle.walks.specs.Laws.{vertex-list, vertices-refusal, accepted-vertices, call-refused, call-written, zeros-on, zeros-same, wrote-along, path-fits, marked-zeros}
-use Rattle.walks.proofs.walks.write_vertices.Statement.{statement}
-use Rattle.walks.proofs.walks.write_vertices.Tie as tie
+use Rattle.tours.proofs.write_vertices.Statement.{statement}
+use Rattle.tours.proofs.write_vertices.Tie as tie
 
 element-copy-out-enough : tie.Need-element-copy-out-enough
 element-copy-out-enough c = search needs

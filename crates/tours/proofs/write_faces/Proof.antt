@@ -1,4 +1,4 @@
--- `walks::walks::write_faces` meets its contract. Assumes nothing.
+-- `tours::write_faces` meets its contract. Assumes nothing.
 use mathlib.Core.Path.{sym, ap, _∙_}
 use native.Mathlib.Nat.{le-trans}
 use lib.Dec.{lit≤}
@@ -10,10 +10,10 @@ use Rattle.model.specs.Decode.{decode}
 use Rattle.model.specs.Readable.{readable}
 use Rattle.paths.specs.Paths.{faceList}
 use Rattle.paths.specs.Laws.{laid-short, laid-front, sources-front, face-path-short, face-sources}
 use Rattle.walks.specs.Calls.{reach, facesNumber, facesHanded}
 use Rattle.walks.specs.Laws.{face-list, faces-refusal, accepted-faces, call-refused, call-written, zeros-on, zeros-same, wrote-along, path-fits}
-use Rattle.walks.proofs.walks.write_faces.Statement.{statement}
-use Rattle.walks.proofs.walks.write_faces.Tie as tie
+use Rattle.tours.proofs.write_faces.Statement.{statement}
+use Rattle.tours.proofs.write_faces.Tie as tie
 
 element-copy-out-enough : tie.Need-element-copy-out-enough
 element-copy-out-enough c = search needs

@@ -1,52 +1,17 @@
-// The walks. Each has two forms: `write_..` fills the front of the caller's list and returns how many ids it put there, and its promise
-// tells of the whole list; the form without `write` (crate `views`) returns that front part.
-use crate::refusals::edges_refusal;
-use crate::refusals::faces_refusal;
-use crate::refusals::vertices_refusal;
+// The three walks of a body (model.rs). specs/Calls.antt of crate `walks` says which number and which list they give. Each has two forms:
+// `write_..` fills the front of the caller's list and returns how many ids it put there, and its promise tells of the whole list; the
+// form without `write` (crate `views`) returns that front part.
+use denials::edges_refusal;
+use denials::faces_refusal;
+use denials::vertices_refusal;
 use marks::clear;
 use paths::edge_path;
 use paths::face_path;
 use paths::vertex_path;
-use visits::visit;
+use walks::write_walk;
 ghost use mathlib.Core.Path.{_≡_};
-ghost use mathlib.Core.Bool.{_&&_};
-ghost use Prim.Native.Nat.{_≤_};
 ghost use lib.ListN.{length, replicate};
-ghost use Rattle.meaning.specs.Lists.{firsts};
-ghost use Rattle.model.specs.Fit.{Lists};
-ghost use Rattle.parts.specs.Parts.{Sources};
-ghost use Rattle.visits.specs.Visits.{idsOf};
 ghost use Rattle.walks.specs.Calls.{inFront, facesNumber, facesHanded, edgesNumber, edgesHanded, verticesNumber, verticesHanded};
-ghost use Rattle.walks.specs.Decoded.{Wrote};
-
-// Walks a path: counts first, on no list at all, and fills the caller's list if it is long enough. The marks come all zero and are left so.
-fn write_walk(
-    room: &[usize; 10],
-    words: &[u32],
-    path: &[u32],
-    marks: &mut [u8],
-    out: &mut [u32],
-    code: &mut u32,
-) -> usize
-    requires { ⌜ Lists (now room) (now words) ⌝ }
-    requires { ⌜ Sources (now room) (now words) (now path) ⌝ }
-    requires { ⌜ length (now path) ≤ 8448 ⌝ }
-    requires { ⌜ now marks ≡ replicate (length (now marks)) 0 ⌝ }
-    ensures { λ r. ⌜ Wrote (firsts (idsOf (now (room .entry)) (now (words .entry)) (now (path .entry)))) (now (out .entry)) (now (out .exit)) (now (code .exit)) r ⌝ }
-    ensures { λ _. ⌜ now (marks .exit) ≡ replicate (length (now (marks .entry))) 0 ⌝ }
-{
-    let space = out.len();
-    let n = visit(room, words, path, marks, &mut out[..0]);
-    clear(marks);
-    if space < n {
-        *code = 8;
-        return 0;
-    }
-    let m = visit(room, words, path, marks, out);
-    clear(marks);
-    *code = 0;
-    m
-}
 
 // The faces of a body: regions, shells, faces in list order, each at its first meeting. `faces` are seen marks, and `code` gets the
 // refusal's number, or 0.

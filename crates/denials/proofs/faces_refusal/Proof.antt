@@ -1,4 +1,4 @@
--- `walks::refusals::faces_refusal` meets its contract: each way out is the first test that fails. Assumes nothing.
+-- `denials::faces_refusal` meets its contract: each way out is the first test that fails. Assumes nothing.
 use mathlib.Core.Path.{_≡_, sym, ap, _∙_}
 use mathlib.Core.Bool.{false, true}
 use borrow.Author.Needs.{needs}
@@ -9,9 +9,9 @@ use Rattle.model.specs.Readable.{readable}
 use Rattle.model.specs.Laws.{fit-of, lists-of}
 use Rattle.paths.specs.Paths.{bodyFollowed}
 use Rattle.geometry.specs.Refuse.{_unless_}
 use Rattle.walks.specs.Laws.{faces-refusal, refused-9, refused-8, refused-not}
-use Rattle.walks.proofs.refusals.faces_refusal.Statement.{statement}
-use Rattle.walks.proofs.refusals.faces_refusal.Tie as tie
+use Rattle.denials.proofs.faces_refusal.Statement.{statement}
+use Rattle.denials.proofs.faces_refusal.Tie as tie
 
 readable-requires : tie.Need-readable-requires
 readable-requires c κs = search needs

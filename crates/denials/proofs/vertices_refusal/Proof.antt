@@ -1,4 +1,4 @@
--- `walks::refusals::vertices_refusal` meets its contract: each way out is the first test that fails. Assumes nothing.
+-- `denials::vertices_refusal` meets its contract: each way out is the first test that fails. Assumes nothing.
 use mathlib.Core.Path.{_≡_, sym, ap, _∙_}
 use mathlib.Core.Bool.{false, true}
 use borrow.Author.Needs.{needs}
@@ -9,10 +9,10 @@ use Rattle.model.specs.Decode.{decode}
 use Rattle.model.specs.Readable.{readable}
 use Rattle.paths.specs.Paths.{edgesThere}
 use Rattle.geometry.specs.Refuse.{_unless_}
 use Rattle.walks.specs.Decoded.{refusedBy}
 use Rattle.walks.specs.Laws.{edges-refusal, vertices-refusal, refused-then, refused-before, accepted-edges, zeros-on, marked-zeros}
-use Rattle.walks.proofs.refusals.vertices_refusal.Statement.{statement}
-use Rattle.walks.proofs.refusals.vertices_refusal.Tie as tie
+use Rattle.denials.proofs.vertices_refusal.Statement.{statement}
+use Rattle.denials.proofs.vertices_refusal.Tie as tie
 
 edges-refusal-requires : tie.Need-edges-refusal-requires
 edges-refusal-requires c κs = search needs
