@@ -1,6 +1,4 @@
 // What a C program asks of the records: the answer's number, and its values in lent slots, which a refusal leaves as they were.
-pub mod lookups;
-
 use bounds::Bounds;
 use bounds::edge_parameter_bounds;
 use crossings::tags::entity_of;

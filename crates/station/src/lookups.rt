@@ -18,7 +18,7 @@ pub extern "C" fn brunskerl_body(
     ensures answer { λ r. ⌜ r ≡ bodyNumber (bodyAnswer (now (room .entry)) (now (words .entry)) (now (reals .entry)) id) ⌝ }
     ensures slots { λ _. ⌜ now (value .exit) ≡ bodySlots (bodyAnswer (now (room .entry)) (now (words .entry)) (now (reals .entry)) id) (now (value .entry)) ⌝ }
 {
-    queries::lookups::body(room, words, reals, id, value)
+    readings::body(room, words, reals, id, value)
 }
 
 #[no_mangle]
@@ -32,7 +32,7 @@ pub extern "C" fn brunskerl_region(
     ensures answer { λ r. ⌜ r ≡ regionNumber (regionAnswer (now (room .entry)) (now (words .entry)) (now (reals .entry)) id) ⌝ }
     ensures slots { λ _. ⌜ now (value .exit) ≡ regionSlots (regionAnswer (now (room .entry)) (now (words .entry)) (now (reals .entry)) id) (now (value .entry)) ⌝ }
 {
-    queries::lookups::region(room, words, reals, id, value)
+    readings::region(room, words, reals, id, value)
 }
 
 #[no_mangle]
@@ -46,7 +46,7 @@ pub extern "C" fn brunskerl_shell(
     ensures answer { λ r. ⌜ r ≡ shellNumber (shellAnswer (now (room .entry)) (now (words .entry)) (now (reals .entry)) id) ⌝ }
     ensures slots { λ _. ⌜ now (value .exit) ≡ shellSlots (shellAnswer (now (room .entry)) (now (words .entry)) (now (reals .entry)) id) (now (value .entry)) ⌝ }
 {
-    queries::lookups::shell(room, words, reals, id, value)
+    readings::shell(room, words, reals, id, value)
 }
 
 #[no_mangle]
@@ -60,7 +60,7 @@ pub extern "C" fn brunskerl_face(
     ensures answer { λ r. ⌜ r ≡ faceNumber (faceAnswer (now (room .entry)) (now (words .entry)) (now (reals .entry)) id) ⌝ }
     ensures slots { λ _. ⌜ now (value .exit) ≡ faceSlots (faceAnswer (now (room .entry)) (now (words .entry)) (now (reals .entry)) id) (now (value .entry)) ⌝ }
 {
-    queries::lookups::face(room, words, reals, id, value)
+    readings::face(room, words, reals, id, value)
 }
 
 #[no_mangle]
@@ -74,7 +74,7 @@ pub extern "C" fn brunskerl_loop(
     ensures answer { λ r. ⌜ r ≡ loopNumber (loopAnswer (now (room .entry)) (now (words .entry)) (now (reals .entry)) id) ⌝ }
     ensures slots { λ _. ⌜ now (value .exit) ≡ loopSlots (loopAnswer (now (room .entry)) (now (words .entry)) (now (reals .entry)) id) (now (value .entry)) ⌝ }
 {
-    queries::lookups::loop_(room, words, reals, id, value)
+    readings::loop_(room, words, reals, id, value)
 }
 
 #[no_mangle]
@@ -88,7 +88,7 @@ pub extern "C" fn brunskerl_fin(
     ensures answer { λ r. ⌜ r ≡ finNumber (finAnswer (now (room .entry)) (now (words .entry)) (now (reals .entry)) id) ⌝ }
     ensures slots { λ _. ⌜ now (value .exit) ≡ finSlots (finAnswer (now (room .entry)) (now (words .entry)) (now (reals .entry)) id) (now (value .entry)) ⌝ }
 {
-    queries::lookups::fin(room, words, reals, id, value)
+    readings::fin(room, words, reals, id, value)
 }
 
 #[no_mangle]
@@ -104,7 +104,7 @@ pub extern "C" fn brunskerl_edge(
     ensures slots { λ _. ⌜ now (value .exit) ≡ edgeSlots (edgeAnswer (now (room .entry)) (now (words .entry)) (now (reals .entry)) id) (now (value .entry)) ⌝ }
     ensures floats { λ _. ⌜ now (floats .exit) ≡ edgeReals (edgeAnswer (now (room .entry)) (now (words .entry)) (now (reals .entry)) id) (now (floats .entry)) ⌝ }
 {
-    queries::lookups::edge(room, words, reals, id, value, floats)
+    readings::edge(room, words, reals, id, value, floats)
 }
 
 #[no_mangle]
@@ -120,7 +120,7 @@ pub extern "C" fn brunskerl_vertex(
     ensures slots { λ _. ⌜ now (value .exit) ≡ vertexSlots (vertexAnswer (now (room .entry)) (now (words .entry)) (now (reals .entry)) id) (now (value .entry)) ⌝ }
     ensures floats { λ _. ⌜ now (floats .exit) ≡ vertexReals (vertexAnswer (now (room .entry)) (now (words .entry)) (now (reals .entry)) id) (now (floats .entry)) ⌝ }
 {
-    queries::lookups::vertex(room, words, reals, id, value, floats)
+    readings::vertex(room, words, reals, id, value, floats)
 }
 
 #[no_mangle]
@@ -136,7 +136,7 @@ pub extern "C" fn brunskerl_curve(
     ensures slots { λ _. ⌜ now (value .exit) ≡ carrierSlots (curveAnswer (now (room .entry)) (now (words .entry)) (now (reals .entry)) id) (now (value .entry)) ⌝ }
     ensures floats { λ _. ⌜ now (floats .exit) ≡ carrierReals (curveAnswer (now (room .entry)) (now (words .entry)) (now (reals .entry)) id) (now (floats .entry)) ⌝ }
 {
-    queries::lookups::curve(room, words, reals, id, value, floats)
+    readings::curve(room, words, reals, id, value, floats)
 }
 
 #[no_mangle]
@@ -152,7 +152,7 @@ pub extern "C" fn brunskerl_surface(
     ensures slots { λ _. ⌜ now (value .exit) ≡ carrierSlots (surfaceAnswer (now (room .entry)) (now (words .entry)) (now (reals .entry)) id) (now (value .entry)) ⌝ }
     ensures floats { λ _. ⌜ now (floats .exit) ≡ carrierReals (surfaceAnswer (now (room .entry)) (now (words .entry)) (now (reals .entry)) id) (now (floats .entry)) ⌝ }
 {
-    queries::lookups::surface(room, words, reals, id, value, floats)
+    readings::surface(room, words, reals, id, value, floats)
 }
 
 // Whether an entity exists, by its class, which is the number of its table.

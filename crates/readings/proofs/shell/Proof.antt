@@ -1,8 +1,8 @@
--- `queries::lookups::shell` meets its contract. Assumes nothing.
+-- `readings::shell` meets its contract. Assumes nothing.
 use mathlib.Core.Path.{refl}
 use borrow.Author.Needs.{needs}
-use Rattle.queries.proofs.lookups.shell.Statement.{statement}
-use Rattle.queries.proofs.lookups.shell.Tie as tie
+use Rattle.readings.proofs.shell.Statement.{statement}
+use Rattle.readings.proofs.shell.Tie as tie
 
 shell-requires : tie.Need-shell-requires
 shell-requires c κs = search needs

@@ -1,8 +1,8 @@
--- `queries::lookups::curve` meets its contract. Assumes nothing.
+-- `readings::curve` meets its contract. Assumes nothing.
 use mathlib.Core.Path.{refl}
 use borrow.Author.Needs.{needs}
-use Rattle.queries.proofs.lookups.curve.Statement.{statement}
-use Rattle.queries.proofs.lookups.curve.Tie as tie
+use Rattle.readings.proofs.curve.Statement.{statement}
+use Rattle.readings.proofs.curve.Tie as tie
 
 curve-requires : tie.Need-curve-requires
 curve-requires c κs = search needs

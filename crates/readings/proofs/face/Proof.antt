@@ -1,8 +1,8 @@
--- `queries::lookups::face` meets its contract. Assumes nothing.
+-- `readings::face` meets its contract. Assumes nothing.
 use mathlib.Core.Path.{refl}
 use borrow.Author.Needs.{needs}
-use Rattle.queries.proofs.lookups.face.Statement.{statement}
-use Rattle.queries.proofs.lookups.face.Tie as tie
+use Rattle.readings.proofs.face.Statement.{statement}
+use Rattle.readings.proofs.face.Tie as tie
 
 face-requires : tie.Need-face-requires
 face-requires c κs = search needs

@@ -1,8 +1,8 @@
--- `queries::lookups::surface` meets its contract. Assumes nothing.
+-- `readings::surface` meets its contract. Assumes nothing.
 use mathlib.Core.Path.{refl}
 use borrow.Author.Needs.{needs}
-use Rattle.queries.proofs.lookups.surface.Statement.{statement}
-use Rattle.queries.proofs.lookups.surface.Tie as tie
+use Rattle.readings.proofs.surface.Statement.{statement}
+use Rattle.readings.proofs.surface.Tie as tie
 
 surface-requires : tie.Need-surface-requires
 surface-requires c κs = search needs

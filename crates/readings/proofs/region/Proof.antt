@@ -1,8 +1,8 @@
--- `queries::lookups::region` meets its contract. Assumes nothing.
+-- `readings::region` meets its contract. Assumes nothing.
 use mathlib.Core.Path.{refl}
 use borrow.Author.Needs.{needs}
-use Rattle.queries.proofs.lookups.region.Statement.{statement}
-use Rattle.queries.proofs.lookups.region.Tie as tie
+use Rattle.readings.proofs.region.Statement.{statement}
+use Rattle.readings.proofs.region.Tie as tie
 
 region-requires : tie.Need-region-requires
 region-requires c κs = search needs

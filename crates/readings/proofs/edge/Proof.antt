@@ -1,8 +1,8 @@
--- `queries::lookups::edge` meets its contract. Assumes nothing.
+-- `readings::edge` meets its contract. Assumes nothing.
 use mathlib.Core.Path.{refl}
 use borrow.Author.Needs.{needs}
-use Rattle.queries.proofs.lookups.edge.Statement.{statement}
-use Rattle.queries.proofs.lookups.edge.Tie as tie
+use Rattle.readings.proofs.edge.Statement.{statement}
+use Rattle.readings.proofs.edge.Tie as tie
 
 edge-requires : tie.Need-edge-requires
 edge-requires c κs = search needs

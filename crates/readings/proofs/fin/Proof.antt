@@ -1,8 +1,8 @@
--- `queries::lookups::fin` meets its contract. Assumes nothing.
+-- `readings::fin` meets its contract. Assumes nothing.
 use mathlib.Core.Path.{refl}
 use borrow.Author.Needs.{needs}
-use Rattle.queries.proofs.lookups.fin.Statement.{statement}
-use Rattle.queries.proofs.lookups.fin.Tie as tie
+use Rattle.readings.proofs.fin.Statement.{statement}
+use Rattle.readings.proofs.fin.Tie as tie
 
 fin-requires : tie.Need-fin-requires
 fin-requires c κs = search needs

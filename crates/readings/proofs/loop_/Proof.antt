@@ -1,8 +1,8 @@
--- `queries::lookups::loop_` meets its contract. Assumes nothing.
+-- `readings::loop_` meets its contract. Assumes nothing.
 use mathlib.Core.Path.{refl}
 use borrow.Author.Needs.{needs}
-use Rattle.queries.proofs.lookups.loop_.Statement.{statement}
-use Rattle.queries.proofs.lookups.loop_.Tie as tie
+use Rattle.readings.proofs.loop_.Statement.{statement}
+use Rattle.readings.proofs.loop_.Tie as tie
 
 loop--requires : tie.Need-loop--requires
 loop--requires c κs = search needs

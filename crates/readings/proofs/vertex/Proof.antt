@@ -1,8 +1,8 @@
--- `queries::lookups::vertex` meets its contract. Assumes nothing.
+-- `readings::vertex` meets its contract. Assumes nothing.
 use mathlib.Core.Path.{refl}
 use borrow.Author.Needs.{needs}
-use Rattle.queries.proofs.lookups.vertex.Statement.{statement}
-use Rattle.queries.proofs.lookups.vertex.Tie as tie
+use Rattle.readings.proofs.vertex.Statement.{statement}
+use Rattle.readings.proofs.vertex.Tie as tie
 
 vertex-requires : tie.Need-vertex-requires
 vertex-requires c κs = search needs

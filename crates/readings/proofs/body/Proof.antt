@@ -1,8 +1,8 @@
--- `queries::lookups::body` meets its contract. Assumes nothing.
+-- `readings::body` meets its contract. Assumes nothing.
 use mathlib.Core.Path.{refl}
 use borrow.Author.Needs.{needs}
-use Rattle.queries.proofs.lookups.body.Statement.{statement}
-use Rattle.queries.proofs.lookups.body.Tie as tie
+use Rattle.readings.proofs.body.Statement.{statement}
+use Rattle.readings.proofs.body.Tie as tie
 
 body-requires : tie.Need-body-requires
 body-requires c κs = search needs
