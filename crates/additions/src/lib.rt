@@ -1,10 +1,8 @@
-// A record more, its fields as numbers: its id in a lent slot. A tag that is none gives 1, right after 9.
+// A record more that bears no tolerance, its fields as numbers: its id in a lent slot. A tag that is none gives 1, right after 9.
 use crossings::tags::body_known;
 use crossings::tags::carrier_known;
 use crossings::tags::face_known;
 use crossings::tags::fin_known;
-use crossings::tags::own_known;
-use crossings::tags::point_of;
 use crossings::tags::region_known;
 use crossings::tags::unknown_tag;
 use crossings::values::put_id;
@@ -12,23 +10,20 @@ use entity::records::carrier_of;
 use entity::records::kind_of;
 use entity::records::ref_at;
 use entity::records::sense_of;
-use entity::records::tolerance_of;
 use inserts::insert_body;
 use inserts::insert_curve;
-use inserts::insert_edge;
 use inserts::insert_face;
 use inserts::insert_fin;
 use inserts::insert_loop;
 use inserts::insert_region;
 use inserts::insert_shell;
 use inserts::insert_surface;
-use inserts::insert_vertex;
 ghost use mathlib.Core.Path.{_≡_};
 ghost use mathlib.Core.Bool.{true};
 ghost use mathlib.Core.List.{[]};
 ghost use Rattle.edits.specs.Answers.{insertAnswer, insertWords, insertReals};
 ghost use Rattle.crossings.specs.Crossing.{insertedNumber, insertedSlots};
-ghost use Rattle.crossings.specs.Given.{bodyKnown, regionKnown, faceKnown, finKnown, carrierKnown, edgeGood, vertexGood, bodyGiven, regionGiven, shellGiven, faceGiven, loopGiven, finGiven, edgeGiven, vertexGiven, carrierGiven, edgeOwn, vertexOwn, carrierOwn};
+ghost use Rattle.crossings.specs.Given.{bodyKnown, regionKnown, faceKnown, finKnown, carrierKnown, bodyGiven, regionGiven, shellGiven, faceGiven, loopGiven, finGiven, carrierGiven, carrierOwn};
 
 pub fn body(
     room: &[usize; 10],
@@ -145,53 +140,6 @@ pub fn fin(
         insert_fin(room, words, reals, value[0], value[1], sense, value[3] != 0),
         id,
     )
-}
-
-pub fn edge(
-    room: &[usize; 10],
-    words: &mut [u32],
-    reals: &mut [f64],
-    value: &[u32; 7],
-    floats: &[f64; 1],
-    id: &mut [u32; 1],
-) -> u32
-    ensures answer { λ r. ⌜ r ≡ insertedNumber (insertAnswer (now (room .entry)) (now (words .entry)) (now (reals .entry)) (edgeGood (now (value .entry)) (now (floats .entry))) 6) ⌝ }
-    ensures slots { λ _. ⌜ now (id .exit) ≡ insertedSlots (insertAnswer (now (room .entry)) (now (words .entry)) (now (reals .entry)) (edgeGood (now (value .entry)) (now (floats .entry))) 6) (now (id .entry)) ⌝ }
-    ensures tables { λ _. ⌜ now (words .exit) ≡ insertWords (now (room .entry)) (now (words .entry)) (now (reals .entry)) (edgeGood (now (value .entry)) (now (floats .entry))) 6 (edgeGiven (now (value .entry)) (now (floats .entry))) ⌝ }
-    ensures floats { λ _. ⌜ now (reals .exit) ≡ insertReals (now (room .entry)) (now (words .entry)) (now (reals .entry)) (edgeGood (now (value .entry)) (now (floats .entry))) 6 (edgeOwn (now (value .entry)) (now (floats .entry))) ⌝ }
-{
-    if !face_known(value) {
-        return unknown_tag(room, &words[..], &reals[..]);
-    }
-    let start = ref_at(value, 0);
-    let end = ref_at(value, 2);
-    let curve = ref_at(value, 4);
-    let tolerance = tolerance_of(value[6], floats[0]);
-    put_id(
-        insert_edge(room, words, reals, start, end, curve, tolerance),
-        id,
-    )
-}
-
-pub fn vertex(
-    room: &[usize; 10],
-    words: &mut [u32],
-    reals: &mut [f64],
-    value: &[u32; 1],
-    floats: &[f64; 4],
-    id: &mut [u32; 1],
-) -> u32
-    ensures answer { λ r. ⌜ r ≡ insertedNumber (insertAnswer (now (room .entry)) (now (words .entry)) (now (reals .entry)) (vertexGood (now (value .entry)) (now (floats .entry))) 7) ⌝ }
-    ensures slots { λ _. ⌜ now (id .exit) ≡ insertedSlots (insertAnswer (now (room .entry)) (now (words .entry)) (now (reals .entry)) (vertexGood (now (value .entry)) (now (floats .entry))) 7) (now (id .entry)) ⌝ }
-    ensures tables { λ _. ⌜ now (words .exit) ≡ insertWords (now (room .entry)) (now (words .entry)) (now (reals .entry)) (vertexGood (now (value .entry)) (now (floats .entry))) 7 (vertexGiven (now (value .entry)) (now (floats .entry))) ⌝ }
-    ensures floats { λ _. ⌜ now (reals .exit) ≡ insertReals (now (room .entry)) (now (words .entry)) (now (reals .entry)) (vertexGood (now (value .entry)) (now (floats .entry))) 7 (vertexOwn (now (value .entry)) (now (floats .entry))) ⌝ }
-{
-    if !own_known(value) {
-        return unknown_tag(room, &words[..], &reals[..]);
-    }
-    let point = point_of(floats);
-    let tolerance = tolerance_of(value[0], floats[3]);
-    put_id(insert_vertex(room, words, reals, point, tolerance), id)
 }
 
 pub fn curve(

@@ -116,7 +116,7 @@ pub extern "C" fn brunskerl_insert_edge(
     ensures tables { λ _. ⌜ now (words .exit) ≡ insertWords (now (room .entry)) (now (words .entry)) (now (reals .entry)) (edgeGood (now (value .entry)) (now (floats .entry))) 6 (edgeGiven (now (value .entry)) (now (floats .entry))) ⌝ }
     ensures floats { λ _. ⌜ now (reals .exit) ≡ insertReals (now (room .entry)) (now (words .entry)) (now (reals .entry)) (edgeGood (now (value .entry)) (now (floats .entry))) 6 (edgeOwn (now (value .entry)) (now (floats .entry))) ⌝ }
 {
-    additions::edge(room, words, reals, value, floats, id)
+    bearers::edge(room, words, reals, value, floats, id)
 }
 
 #[no_mangle]
@@ -133,7 +133,7 @@ pub extern "C" fn brunskerl_insert_vertex(
     ensures tables { λ _. ⌜ now (words .exit) ≡ insertWords (now (room .entry)) (now (words .entry)) (now (reals .entry)) (vertexGood (now (value .entry)) (now (floats .entry))) 7 (vertexGiven (now (value .entry)) (now (floats .entry))) ⌝ }
     ensures floats { λ _. ⌜ now (reals .exit) ≡ insertReals (now (room .entry)) (now (words .entry)) (now (reals .entry)) (vertexGood (now (value .entry)) (now (floats .entry))) 7 (vertexOwn (now (value .entry)) (now (floats .entry))) ⌝ }
 {
-    additions::vertex(room, words, reals, value, floats, id)
+    bearers::vertex(room, words, reals, value, floats, id)
 }
 
 #[no_mangle]

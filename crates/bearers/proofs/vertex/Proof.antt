@@ -1,12 +1,12 @@
--- `additions::vertex` meets its contract. Assumes nothing.
+-- `bearers::vertex` meets its contract. Assumes nothing.
 use mathlib.Core.Path.{_≡_, sym, _∙_}
 use mathlib.Core.Bool.{true, false}
 use borrow.Author.Tests.{not-true, not-false}
 use Rattle.crossings.specs.Given.{ownKnown, vertexGood}
 use Rattle.crossings.specs.Laws.{unknown-inserted}
 use borrow.Author.Needs.{needs}
-use Rattle.additions.proofs.vertex.Statement.{statement}
-use Rattle.additions.proofs.vertex.Tie as tie
+use Rattle.bearers.proofs.vertex.Statement.{statement}
+use Rattle.bearers.proofs.vertex.Tie as tie
 
 own-known-requires : tie.Need-own-known-requires
 own-known-requires c κs = search needs

@@ -1,12 +1,12 @@
--- `additions::edge` meets its contract. Assumes nothing.
+-- `bearers::edge` meets its contract. Assumes nothing.
 use mathlib.Core.Path.{_≡_, sym, _∙_}
 use mathlib.Core.Bool.{true, false}
 use borrow.Author.Tests.{not-true, not-false}
 use Rattle.crossings.specs.Given.{faceKnown, edgeGood}
 use Rattle.crossings.specs.Laws.{unknown-inserted}
 use borrow.Author.Needs.{needs}
-use Rattle.additions.proofs.edge.Statement.{statement}
-use Rattle.additions.proofs.edge.Tie as tie
+use Rattle.bearers.proofs.edge.Statement.{statement}
+use Rattle.bearers.proofs.edge.Tie as tie
 
 face-known-requires : tie.Need-face-known-requires
 face-known-requires c κs = search needs
