@@ -1,8 +1,7 @@
-// Other fields in a record, as numbers; its lists are kept. A tag that is none gives 1, right after 9.
+// Other fields in a record that has no sense, as numbers; its lists are kept. A tag that is none gives 1, right after 9.
 use crossings::tags::body_known;
 use crossings::tags::carrier_known;
 use crossings::tags::face_known;
-use crossings::tags::fin_known;
 use crossings::tags::own_known;
 use crossings::tags::point_of;
 use crossings::tags::region_known;
@@ -10,13 +9,10 @@ use crossings::tags::unknown_tag;
 use entity::records::carrier_of;
 use entity::records::kind_of;
 use entity::records::ref_at;
-use entity::records::sense_of;
 use entity::records::tolerance_of;
 use sets::set_body;
 use sets::set_curve;
 use sets::set_edge;
-use sets::set_face;
-use sets::set_fin;
 use sets::set_loop;
 use sets::set_region;
 use sets::set_shell;
@@ -26,7 +22,7 @@ ghost use mathlib.Core.Path.{_≡_};
 ghost use mathlib.Core.Bool.{true};
 ghost use mathlib.Core.List.{[]};
 ghost use Rattle.edits.specs.Answers.{editNumber, editWords, editReals};
-ghost use Rattle.crossings.specs.Given.{bodyKnown, regionKnown, faceKnown, finKnown, carrierKnown, edgeGood, vertexGood, bodyGiven, regionGiven, shellGiven, faceGiven, loopGiven, finGiven, edgeGiven, vertexGiven, carrierGiven, edgeOwn, vertexOwn, carrierOwn};
+ghost use Rattle.crossings.specs.Given.{bodyKnown, regionKnown, carrierKnown, edgeGood, vertexGood, bodyGiven, regionGiven, shellGiven, loopGiven, edgeGiven, vertexGiven, carrierGiven, edgeOwn, vertexOwn, carrierOwn};
 
 pub fn body(
     room: &[usize; 10],
@@ -77,27 +73,6 @@ pub fn shell(
     set_shell(room, words, reals, id, value[0])
 }
 
-pub fn face(
-    room: &[usize; 10],
-    words: &mut [u32],
-    reals: &mut [f64],
-    id: usize,
-    value: &[u32; 7],
-) -> u32
-    ensures answer { λ r. ⌜ r ≡ editNumber (now (room .entry)) (now (words .entry)) (now (reals .entry)) (faceKnown (now (value .entry))) 3 id ⌝ }
-    ensures tables { λ _. ⌜ now (words .exit) ≡ editWords (now (room .entry)) (now (words .entry)) (now (reals .entry)) (faceKnown (now (value .entry))) 3 id 0 (faceGiven (now (value .entry))) ⌝ }
-    ensures floats { λ _. ⌜ now (reals .exit) ≡ editReals (now (room .entry)) (now (words .entry)) (now (reals .entry)) (faceKnown (now (value .entry))) 3 id [] ⌝ }
-{
-    if !face_known(value) {
-        return unknown_tag(room, &words[..], &reals[..]);
-    }
-    let front = ref_at(value, 0);
-    let back = ref_at(value, 2);
-    let surface = ref_at(value, 4);
-    let sense = sense_of(value[6]);
-    set_face(room, words, reals, id, front, back, surface, sense)
-}
-
 pub fn loop_(
     room: &[usize; 10],
     words: &mut [u32],
@@ -110,33 +85,6 @@ pub fn loop_(
     ensures floats { λ _. ⌜ now (reals .exit) ≡ editReals (now (room .entry)) (now (words .entry)) (now (reals .entry)) true 4 id [] ⌝ }
 {
     set_loop(room, words, reals, id, value[0])
-}
-
-pub fn fin(
-    room: &[usize; 10],
-    words: &mut [u32],
-    reals: &mut [f64],
-    id: usize,
-    value: &[u32; 4],
-) -> u32
-    ensures answer { λ r. ⌜ r ≡ editNumber (now (room .entry)) (now (words .entry)) (now (reals .entry)) (finKnown (now (value .entry))) 5 id ⌝ }
-    ensures tables { λ _. ⌜ now (words .exit) ≡ editWords (now (room .entry)) (now (words .entry)) (now (reals .entry)) (finKnown (now (value .entry))) 5 id 0 (finGiven (now (value .entry))) ⌝ }
-    ensures floats { λ _. ⌜ now (reals .exit) ≡ editReals (now (room .entry)) (now (words .entry)) (now (reals .entry)) (finKnown (now (value .entry))) 5 id [] ⌝ }
-{
-    if !fin_known(value) {
-        return unknown_tag(room, &words[..], &reals[..]);
-    }
-    let sense = sense_of(value[2]);
-    set_fin(
-        room,
-        words,
-        reals,
-        id,
-        value[0],
-        value[1],
-        sense,
-        value[3] != 0,
-    )
 }
 
 pub fn edge(

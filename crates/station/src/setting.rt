@@ -63,7 +63,7 @@ pub extern "C" fn brunskerl_set_face(
     ensures tables { λ _. ⌜ now (words .exit) ≡ editWords (now (room .entry)) (now (words .entry)) (now (reals .entry)) (faceKnown (now (value .entry))) 3 id 0 (faceGiven (now (value .entry))) ⌝ }
     ensures floats { λ _. ⌜ now (reals .exit) ≡ editReals (now (room .entry)) (now (words .entry)) (now (reals .entry)) (faceKnown (now (value .entry))) 3 id [] ⌝ }
 {
-    changes::face(room, words, reals, id, value)
+    senses::face(room, words, reals, id, value)
 }
 
 #[no_mangle]
@@ -93,7 +93,7 @@ pub extern "C" fn brunskerl_set_fin(
     ensures tables { λ _. ⌜ now (words .exit) ≡ editWords (now (room .entry)) (now (words .entry)) (now (reals .entry)) (finKnown (now (value .entry))) 5 id 0 (finGiven (now (value .entry))) ⌝ }
     ensures floats { λ _. ⌜ now (reals .exit) ≡ editReals (now (room .entry)) (now (words .entry)) (now (reals .entry)) (finKnown (now (value .entry))) 5 id [] ⌝ }
 {
-    changes::fin(room, words, reals, id, value)
+    senses::fin(room, words, reals, id, value)
 }
 
 #[no_mangle]

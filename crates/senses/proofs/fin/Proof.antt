@@ -1,12 +1,12 @@
--- `changes::fin` meets its contract. Assumes nothing.
+-- `senses::fin` meets its contract. Assumes nothing.
 use mathlib.Core.Path.{_≡_, sym, _∙_}
 use mathlib.Core.Bool.{true, false}
 use borrow.Author.Tests.{not-true, not-false}
 use Rattle.crossings.specs.Given.{finKnown}
 use Rattle.crossings.specs.Laws.{unknown-set}
 use borrow.Author.Needs.{needs}
-use Rattle.changes.proofs.fin.Statement.{statement}
-use Rattle.changes.proofs.fin.Tie as tie
+use Rattle.senses.proofs.fin.Statement.{statement}
+use Rattle.senses.proofs.fin.Tie as tie
 
 fin-known-requires : tie.Need-fin-known-requires
 fin-known-requires c κs = search needs

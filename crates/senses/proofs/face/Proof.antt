@@ -1,12 +1,12 @@
--- `changes::face` meets its contract. Assumes nothing.
+-- `senses::face` meets its contract. Assumes nothing.
 use mathlib.Core.Path.{_≡_, sym, _∙_}
 use mathlib.Core.Bool.{true, false}
 use borrow.Author.Tests.{not-true, not-false}
 use Rattle.crossings.specs.Given.{faceKnown}
 use Rattle.crossings.specs.Laws.{unknown-set}
 use borrow.Author.Needs.{needs}
-use Rattle.changes.proofs.face.Statement.{statement}
-use Rattle.changes.proofs.face.Tie as tie
+use Rattle.senses.proofs.face.Statement.{statement}
+use Rattle.senses.proofs.face.Tie as tie
 
 face-known-requires : tie.Need-face-known-requires
 face-known-requires c κs = search needs

@@ -1,0 +1,61 @@
+// Other fields in a face or a fin, the records that have a sense, as numbers; a face's list is kept. A tag that is none gives 1, right
+// after 9.
+use crossings::tags::face_known;
+use crossings::tags::fin_known;
+use crossings::tags::unknown_tag;
+use entity::records::ref_at;
+use entity::records::sense_of;
+use sets::set_face;
+use sets::set_fin;
+ghost use mathlib.Core.Path.{_≡_};
+ghost use mathlib.Core.List.{[]};
+ghost use Rattle.edits.specs.Answers.{editNumber, editWords, editReals};
+ghost use Rattle.crossings.specs.Given.{faceKnown, finKnown, faceGiven, finGiven};
+
+pub fn face(
+    room: &[usize; 10],
+    words: &mut [u32],
+    reals: &mut [f64],
+    id: usize,
+    value: &[u32; 7],
+) -> u32
+    ensures answer { λ r. ⌜ r ≡ editNumber (now (room .entry)) (now (words .entry)) (now (reals .entry)) (faceKnown (now (value .entry))) 3 id ⌝ }
+    ensures tables { λ _. ⌜ now (words .exit) ≡ editWords (now (room .entry)) (now (words .entry)) (now (reals .entry)) (faceKnown (now (value .entry))) 3 id 0 (faceGiven (now (value .entry))) ⌝ }
+    ensures floats { λ _. ⌜ now (reals .exit) ≡ editReals (now (room .entry)) (now (words .entry)) (now (reals .entry)) (faceKnown (now (value .entry))) 3 id [] ⌝ }
+{
+    if !face_known(value) {
+        return unknown_tag(room, &words[..], &reals[..]);
+    }
+    let front = ref_at(value, 0);
+    let back = ref_at(value, 2);
+    let surface = ref_at(value, 4);
+    let sense = sense_of(value[6]);
+    set_face(room, words, reals, id, front, back, surface, sense)
+}
+
+pub fn fin(
+    room: &[usize; 10],
+    words: &mut [u32],
+    reals: &mut [f64],
+    id: usize,
+    value: &[u32; 4],
+) -> u32
+    ensures answer { λ r. ⌜ r ≡ editNumber (now (room .entry)) (now (words .entry)) (now (reals .entry)) (finKnown (now (value .entry))) 5 id ⌝ }
+    ensures tables { λ _. ⌜ now (words .exit) ≡ editWords (now (room .entry)) (now (words .entry)) (now (reals .entry)) (finKnown (now (value .entry))) 5 id 0 (finGiven (now (value .entry))) ⌝ }
+    ensures floats { λ _. ⌜ now (reals .exit) ≡ editReals (now (room .entry)) (now (words .entry)) (now (reals .entry)) (finKnown (now (value .entry))) 5 id [] ⌝ }
+{
+    if !fin_known(value) {
+        return unknown_tag(room, &words[..], &reals[..]);
+    }
+    let sense = sense_of(value[2]);
+    set_fin(
+        room,
+        words,
+        reals,
+        id,
+        value[0],
+        value[1],
+        sense,
+        value[3] != 0,
+    )
+}
