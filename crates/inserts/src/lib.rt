@@ -17,32 +17,15 @@ use fields::tolerance_ok;
 use fields::vertex_fields;
 use fields::vertex_floats;
 use geometry::tolerance::Tolerance;
+use lone::insert_fields;
 use store::Carrier;
 use vectors::vector::Point3;
 ghost use mathlib.Core.Path.{_≡_};
 ghost use mathlib.Core.Bool.{true};
 ghost use mathlib.Core.List.{[]};
 ghost use Rattle.meaning.specs.Edits.{toleranceOk};
-ghost use Rattle.edits.specs.Facts.{Fields};
 ghost use Rattle.edits.specs.Answers.{insertAnswer, insertWords, insertReals};
-ghost use Rattle.fields.specs.Fields.{bodyFields, regionFields, shellFields, faceFields, loopFields, finFields, edgeFields, vertexFields, carrierFields, edgeFloats, vertexFloats, carrierFloats};
-
-// Into a table without floats.
-fn insert_fields(
-    room: &[usize; 10],
-    words: &mut [u32],
-    reals: &mut [f64],
-    k: usize,
-    fields: &[u32],
-) -> Inserted
-    requires { ⌜ Fields k 0 (now fields) [] ⌝ }
-    ensures answer { λ r. ⌜ r ≡ insertAnswer (now (room .entry)) (now (words .entry)) (now (reals .entry)) true k ⌝ }
-    ensures tables { λ _. ⌜ now (words .exit) ≡ insertWords (now (room .entry)) (now (words .entry)) (now (reals .entry)) true k (now (fields .entry)) ⌝ }
-    ensures floats { λ _. ⌜ now (reals .exit) ≡ insertReals (now (room .entry)) (now (words .entry)) (now (reals .entry)) true k [] ⌝ }
-{
-    let none: [f64; 0] = [];
-    insert(room, words, reals, true, k, fields, &none)
-}
+ghost use Rattle.fields.specs.Fields.{bodyFields, regionFields, faceFields, finFields, edgeFields, vertexFields, carrierFields, edgeFloats, vertexFloats, carrierFloats};
 
 pub fn insert_body(
     room: &[usize; 10],
@@ -73,20 +56,6 @@ pub fn insert_region(
     insert_fields(room, words, reals, 1, &fields)
 }
 
-pub fn insert_shell(
-    room: &[usize; 10],
-    words: &mut [u32],
-    reals: &mut [f64],
-    region: u32,
-) -> Inserted
-    ensures answer { λ r. ⌜ r ≡ insertAnswer (now (room .entry)) (now (words .entry)) (now (reals .entry)) true 2 ⌝ }
-    ensures tables { λ _. ⌜ now (words .exit) ≡ insertWords (now (room .entry)) (now (words .entry)) (now (reals .entry)) true 2 (shellFields region) ⌝ }
-    ensures floats { λ _. ⌜ now (reals .exit) ≡ insertReals (now (room .entry)) (now (words .entry)) (now (reals .entry)) true 2 [] ⌝ }
-{
-    let fields = [region];
-    insert_fields(room, words, reals, 2, &fields)
-}
-
 pub fn insert_face(
     room: &[usize; 10],
     words: &mut [u32],
@@ -102,15 +71,6 @@ pub fn insert_face(
 {
     let fields = face_fields(front, back, surface, sense);
     insert_fields(room, words, reals, 3, &fields)
-}
-
-pub fn insert_loop(room: &[usize; 10], words: &mut [u32], reals: &mut [f64], face: u32) -> Inserted
-    ensures answer { λ r. ⌜ r ≡ insertAnswer (now (room .entry)) (now (words .entry)) (now (reals .entry)) true 4 ⌝ }
-    ensures tables { λ _. ⌜ now (words .exit) ≡ insertWords (now (room .entry)) (now (words .entry)) (now (reals .entry)) true 4 (loopFields face) ⌝ }
-    ensures floats { λ _. ⌜ now (reals .exit) ≡ insertReals (now (room .entry)) (now (words .entry)) (now (reals .entry)) true 4 [] ⌝ }
-{
-    let fields = [face];
-    insert_fields(room, words, reals, 4, &fields)
 }
 
 pub fn insert_fin(

@@ -15,34 +15,15 @@ use fields::tolerance_ok;
 use fields::vertex_fields;
 use fields::vertex_floats;
 use geometry::tolerance::Tolerance;
+use single::set_fields;
 use store::Carrier;
 use vectors::vector::Point3;
 ghost use mathlib.Core.Path.{_≡_};
 ghost use mathlib.Core.Bool.{true};
-ghost use mathlib.Core.List.{[], _∷_};
+ghost use mathlib.Core.List.{[]};
 ghost use Rattle.meaning.specs.Edits.{toleranceOk};
-ghost use Rattle.edits.specs.Facts.{Fields};
 ghost use Rattle.edits.specs.Answers.{editNumber, editWords, editReals};
-ghost use Rattle.fields.specs.Fields.{mark, bodyFields, regionFields, shellFields, faceFields, loopFields, finFields, edgeFields, vertexFields, carrierFields, edgeFloats, vertexFloats, carrierFloats};
-
-// In a table without floats, from place p of the record on.
-fn set_fields(
-    room: &[usize; 10],
-    words: &mut [u32],
-    reals: &mut [f64],
-    k: usize,
-    id: usize,
-    p: usize,
-    fields: &[u32],
-) -> u32
-    requires { ⌜ Fields k p (now fields) [] ⌝ }
-    ensures answer { λ r. ⌜ r ≡ editNumber (now (room .entry)) (now (words .entry)) (now (reals .entry)) true k id ⌝ }
-    ensures tables { λ _. ⌜ now (words .exit) ≡ editWords (now (room .entry)) (now (words .entry)) (now (reals .entry)) true k id p (now (fields .entry)) ⌝ }
-    ensures floats { λ _. ⌜ now (reals .exit) ≡ editReals (now (room .entry)) (now (words .entry)) (now (reals .entry)) true k id [] ⌝ }
-{
-    let none: [f64; 0] = [];
-    edit(room, words, reals, true, k, id, p, fields, &none)
-}
+ghost use Rattle.fields.specs.Fields.{bodyFields, regionFields, faceFields, finFields, edgeFields, vertexFields, carrierFields, edgeFloats, vertexFloats, carrierFloats};
 
 pub fn set_body(
     room: &[usize; 10],
@@ -75,21 +56,6 @@ pub fn set_region(
     set_fields(room, words, reals, 1, id, 0, &fields)
 }
 
-pub fn set_shell(
-    room: &[usize; 10],
-    words: &mut [u32],
-    reals: &mut [f64],
-    id: usize,
-    region: u32,
-) -> u32
-    ensures answer { λ r. ⌜ r ≡ editNumber (now (room .entry)) (now (words .entry)) (now (reals .entry)) true 2 id ⌝ }
-    ensures tables { λ _. ⌜ now (words .exit) ≡ editWords (now (room .entry)) (now (words .entry)) (now (reals .entry)) true 2 id 0 (shellFields region) ⌝ }
-    ensures floats { λ _. ⌜ now (reals .exit) ≡ editReals (now (room .entry)) (now (words .entry)) (now (reals .entry)) true 2 id [] ⌝ }
-{
-    let fields = [region];
-    set_fields(room, words, reals, 2, id, 0, &fields)
-}
-
 pub fn set_face(
     room: &[usize; 10],
     words: &mut [u32],
@@ -106,21 +72,6 @@ pub fn set_face(
 {
     let fields = face_fields(front, back, surface, sense);
     set_fields(room, words, reals, 3, id, 0, &fields)
-}
-
-pub fn set_loop(
-    room: &[usize; 10],
-    words: &mut [u32],
-    reals: &mut [f64],
-    id: usize,
-    face: u32,
-) -> u32
-    ensures answer { λ r. ⌜ r ≡ editNumber (now (room .entry)) (now (words .entry)) (now (reals .entry)) true 4 id ⌝ }
-    ensures tables { λ _. ⌜ now (words .exit) ≡ editWords (now (room .entry)) (now (words .entry)) (now (reals .entry)) true 4 id 0 (loopFields face) ⌝ }
-    ensures floats { λ _. ⌜ now (reals .exit) ≡ editReals (now (room .entry)) (now (words .entry)) (now (reals .entry)) true 4 id [] ⌝ }
-{
-    let fields = [face];
-    set_fields(room, words, reals, 4, id, 0, &fields)
 }
 
 pub fn set_fin(
@@ -227,14 +178,4 @@ pub fn set_surface(
     let fields = carrier_fields(carrier);
     let floats = carrier_floats(carrier);
     edit(room, words, reals, true, 9, id, 0, &fields, &floats)
-}
-
-// The mark of a fin that has a pcurve; its other fields are kept.
-pub fn set_fin_geometry(room: &[usize; 10], words: &mut [u32], reals: &mut [f64], id: usize) -> u32
-    ensures answer { λ r. ⌜ r ≡ editNumber (now (room .entry)) (now (words .entry)) (now (reals .entry)) true 5 id ⌝ }
-    ensures tables { λ _. ⌜ now (words .exit) ≡ editWords (now (room .entry)) (now (words .entry)) (now (reals .entry)) true 5 id 3 (mark true ∷ []) ⌝ }
-    ensures floats { λ _. ⌜ now (reals .exit) ≡ editReals (now (room .entry)) (now (words .entry)) (now (reals .entry)) true 5 id [] ⌝ }
-{
-    let fields = [1];
-    set_fields(room, words, reals, 5, id, 3, &fields)
 }

@@ -172,5 +172,5 @@ pub extern "C" fn brunskerl_set_fin_geometry(
     ensures tables { λ _. ⌜ now (words .exit) ≡ editWords (now (room .entry)) (now (words .entry)) (now (reals .entry)) true 5 id 3 (mark true ∷ []) ⌝ }
     ensures floats { λ _. ⌜ now (reals .exit) ≡ editReals (now (room .entry)) (now (words .entry)) (now (reals .entry)) true 5 id [] ⌝ }
 {
-    sets::set_fin_geometry(room, words, reals, id)
+    single::set_fin_geometry(room, words, reals, id)
 }

@@ -6,7 +6,7 @@ use Rattle.stones.proofs.put_body.Statement.{statement}
 use Rattle.stones.proofs.put_body.Tie as tie
 use Rattle.inserts.proofs.insert_body.Reads as insert-body-reads
 use Rattle.inserts.proofs.insert_region.Reads as insert-region-reads
-use Rattle.inserts.proofs.insert_shell.Reads as insert-shell-reads
+use Rattle.lone.proofs.insert_shell.Reads as insert-shell-reads
 use Rattle.listed.proofs.append_entry.Reads as append-entry-reads
 
 abbrev Inv-loop : tie.InvT-loop

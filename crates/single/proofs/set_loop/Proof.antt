@@ -1,9 +1,9 @@
--- `sets::set_loop` meets its contract. Assumes nothing.
+-- `single::set_loop` meets its contract. Assumes nothing.
 use mathlib.Core.Path.{refl}
 use borrow.Author.Needs.{needs}
-use Rattle.sets.proofs.Placed.{placed}
-use Rattle.sets.proofs.set_loop.Statement.{statement}
-use Rattle.sets.proofs.set_loop.Tie as tie
+use Rattle.single.proofs.Placed.{placed}
+use Rattle.single.proofs.set_loop.Statement.{statement}
+use Rattle.single.proofs.set_loop.Tie as tie
 
 slice-aggregate-set-fields : tie.Need-slice-aggregate-set-fields
 slice-aggregate-set-fields c = search needs

@@ -1,7 +1,7 @@
--- `inserts::insert_loop` meets its contract. Assumes nothing.
+-- `lone::insert_loop` meets its contract. Assumes nothing.
 use borrow.Author.Needs.{needs}
-use Rattle.inserts.proofs.insert_loop.Statement.{statement}
-use Rattle.inserts.proofs.insert_loop.Tie as tie
+use Rattle.lone.proofs.insert_loop.Statement.{statement}
+use Rattle.lone.proofs.insert_loop.Tie as tie
 
 slice-aggregate-insert-fields : tie.Need-slice-aggregate-insert-fields
 slice-aggregate-insert-fields c = search needs
