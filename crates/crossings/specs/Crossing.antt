@@ -42,7 +42,8 @@ use Rattle.bounds.specs.declared.Bounds.the-variants as Ranges
 use Rattle.tips.specs.declared.Tips.{Tips}
 use Rattle.tips.specs.declared.FinVertices.{FinVertices}
 use Rattle.tips.specs.declared.FinVertices.the-variants as Ends
-use Rattle.fields.specs.Fields.{mark, refTag, refId, bodyFields, regionFields, shellFields, faceFields, loopFields, finFields, edgeFields, vertexFields, carrierFields, edgeFloats, vertexFloats, carrierFloats}
+use Rattle.coded.specs.Tags.{mark, refTag, refId}
+use Rattle.fields.specs.Fields.{bodyFields, regionFields, shellFields, faceFields, loopFields, finFields, edgeFields, vertexFields, carrierFields, edgeFloats, vertexFloats, carrierFloats}
 
 -- ---- a record's value: its fields, then the lengths of its lists
 

@@ -20,7 +20,8 @@ use fields::vertex_floats;
 use tips::Tips;
 ghost use mathlib.Core.Path.{_≡_};
 ghost use mathlib.Core.List.{[], _∷_};
-ghost use Rattle.fields.specs.Fields.{mark, refTag, refId, edgeFloats, vertexFields, vertexFloats};
+ghost use Rattle.coded.specs.Tags.{mark, refTag, refId};
+ghost use Rattle.fields.specs.Fields.{edgeFloats, vertexFields, vertexFloats};
 ghost use Rattle.crossings.specs.Crossing.{bodyValue, regionValue, shellValue, faceValue, loopValue, finValue, edgeValue, tipsValue, insertedNumber, insertedSlots};
 
 pub fn body_value(b: Body) -> [u32; 2]

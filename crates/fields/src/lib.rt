@@ -1,4 +1,12 @@
 // The fields of a record, as words and floats.
+use coded::carrier_tag;
+use coded::kind_tag;
+use coded::mark;
+use coded::ref_id;
+use coded::ref_tag;
+use coded::sense_tag;
+use coded::tolerance_float;
+use coded::tolerance_tag;
 use entity::records::BodyKind;
 use entity::records::Ref;
 use entity::records::Sense;
@@ -7,85 +15,7 @@ use store::Carrier;
 use vectors::vector::Point3;
 use vectors::vector::Vec3;
 ghost use mathlib.Core.Path.{_≡_};
-ghost use Rattle.meaning.specs.Edits.{toleranceOk};
-ghost use Rattle.fields.specs.Fields.{kindTag, senseTag, mark, refTag, refId, toleranceTag, toleranceFloat, carrierTag, bodyFields, regionFields, shellFields, faceFields, loopFields, finFields, edgeFields, vertexFields, carrierFields, edgeFloats, vertexFloats, six, carrierFloats};
-
-fn kind_tag(kind: BodyKind) -> u32
-    ensures { λ r. ⌜ r ≡ kindTag kind ⌝ }
-{
-    match kind {
-        BodyKind::Acorn => 0,
-        BodyKind::Wire => 1,
-        BodyKind::Sheet => 2,
-        BodyKind::Solid => 3,
-        BodyKind::General => 4,
-    }
-}
-
-fn sense_tag(sense: Sense) -> u32
-    ensures { λ r. ⌜ r ≡ senseTag sense ⌝ }
-{
-    match sense {
-        Sense::Positive => 0,
-        Sense::Negative => 1,
-    }
-}
-
-fn mark(b: bool) -> u32
-    ensures { λ r. ⌜ r ≡ mark b ⌝ }
-{
-    if b {
-        return 1;
-    }
-    0
-}
-
-// An optional id: its tag and the id, 0 where it is none.
-fn ref_tag(id: Ref) -> u32
-    ensures { λ r. ⌜ r ≡ refTag id ⌝ }
-{
-    match id {
-        Ref::None => 0,
-        Ref::Is(_) => 1,
-    }
-}
-
-fn ref_id(id: Ref) -> u32
-    ensures { λ r. ⌜ r ≡ refId id ⌝ }
-{
-    match id {
-        Ref::None => 0,
-        Ref::Is(i) => i,
-    }
-}
-
-// An optional tolerance: its tag and the float, 0 where it is none; and whether it is one that a record may have.
-fn tolerance_tag(tolerance: Tolerance) -> u32
-    ensures { λ r. ⌜ r ≡ toleranceTag tolerance ⌝ }
-{
-    match tolerance {
-        Tolerance::Session => 0,
-        Tolerance::Own(_) => 1,
-    }
-}
-
-fn tolerance_float(tolerance: Tolerance) -> f64
-    ensures { λ r. ⌜ r ≡ toleranceFloat tolerance ⌝ }
-{
-    match tolerance {
-        Tolerance::Session => 0.0,
-        Tolerance::Own(t) => t,
-    }
-}
-
-pub fn tolerance_ok(tolerance: Tolerance) -> bool
-    ensures { λ r. ⌜ r ≡ toleranceOk tolerance ⌝ }
-{
-    match tolerance {
-        Tolerance::Session => true,
-        Tolerance::Own(t) => allowed::tolerance_ok(t),
-    }
-}
+ghost use Rattle.fields.specs.Fields.{bodyFields, regionFields, shellFields, faceFields, loopFields, finFields, edgeFields, vertexFields, carrierFields, edgeFloats, vertexFloats, six, carrierFloats};
 
 pub fn body_fields(kind: BodyKind) -> [u32; 1]
     ensures { λ r. ⌜ r ≡ bodyFields kind ⌝ }
@@ -149,16 +79,6 @@ pub fn vertex_floats(point: Point3, tolerance: Tolerance) -> [f64; 4]
     ensures { λ r. ⌜ r ≡ vertexFloats point tolerance ⌝ }
 {
     [point.x, point.y, point.z, tolerance_float(tolerance)]
-}
-
-fn carrier_tag(carrier: Carrier) -> u32
-    ensures { λ r. ⌜ r ≡ carrierTag carrier ⌝ }
-{
-    match carrier {
-        Carrier::Line(_) => 0,
-        Carrier::Plane(_) => 1,
-        Carrier::Other => 2,
-    }
 }
 
 pub fn carrier_fields(carrier: Carrier) -> [u32; 1]

@@ -1,5 +1,6 @@
 // A record more, with empty lists: its id, or 9; 1 for a tolerance that no record may have; 8 for no slot. No reference is
 // checked.
+use coded::tolerance_ok;
 use edits::Inserted;
 use edits::insert;
 use entity::records::BodyKind;
@@ -13,7 +14,6 @@ use fields::edge_floats;
 use fields::face_fields;
 use fields::fin_fields;
 use fields::region_fields;
-use fields::tolerance_ok;
 use fields::vertex_fields;
 use fields::vertex_floats;
 use geometry::tolerance::Tolerance;

@@ -23,7 +23,8 @@ use Rattle.entity.specs.declared.records.Sense.the-variants as Senses
 use Rattle.entity.specs.declared.records.Ref.{Ref}
 use Rattle.entity.specs.declared.records.Ref.the-variants as Refs
 use Rattle.entity.specs.Seen.{seenKind, seenSense, seenRef}
-use Rattle.fields.specs.Fields.{mark, bodyFields, regionFields, shellFields, faceFields, loopFields, finFields, edgeFields, vertexFields, carrierFields, edgeFloats, vertexFloats, carrierFloats}
+use Rattle.coded.specs.Tags.{mark}
+use Rattle.fields.specs.Fields.{bodyFields, regionFields, shellFields, faceFields, loopFields, finFields, edgeFields, vertexFields, carrierFields, edgeFloats, vertexFloats, carrierFloats}
 use Rattle.written.specs.Meant.{meantKind, meantSense, meantRef, withBodies, withRegions, withShells, withFaces, withLoops, withFins, withEdges, withVertices, withCurves, withSurfaces}
 use Rattle.raw.specs.Leaves.{Inserts, Sets}
 use Rattle.written.specs.Read.{body-read, body-ok, region-read, region-ok, shell-read, shell-ok, face-read, face-ok, loop-read, loop-ok, fin-read, fin-ok, edge-read, edge-ok, vertex-read, vertex-ok, carrier-read, carrier-long, carrier-known, marked-read, marked-ok}

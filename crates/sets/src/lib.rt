@@ -1,4 +1,5 @@
 // Other fields in a record, its lists kept: 0, or 9; 1 for a tolerance that no record may have; 2 for a missing record.
+use coded::tolerance_ok;
 use edits::edit;
 use entity::records::BodyKind;
 use entity::records::Ref;
@@ -11,7 +12,6 @@ use fields::edge_floats;
 use fields::face_fields;
 use fields::fin_fields;
 use fields::region_fields;
-use fields::tolerance_ok;
 use fields::vertex_fields;
 use fields::vertex_floats;
 use geometry::tolerance::Tolerance;

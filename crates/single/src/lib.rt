@@ -6,7 +6,8 @@ ghost use mathlib.Core.Bool.{true};
 ghost use mathlib.Core.List.{[], _∷_};
 ghost use Rattle.edits.specs.Facts.{Fields};
 ghost use Rattle.edits.specs.Answers.{editNumber, editWords, editReals};
-ghost use Rattle.fields.specs.Fields.{mark, shellFields, loopFields};
+ghost use Rattle.coded.specs.Tags.{mark};
+ghost use Rattle.fields.specs.Fields.{shellFields, loopFields};
 
 // In a table without floats, from place p of the record on.
 pub fn set_fields(

@@ -4,7 +4,7 @@ ghost use mathlib.Core.Bool.{true};
 ghost use mathlib.Core.List.{[], _∷_};
 ghost use Rattle.edits.specs.Answers.{editNumber, editWords, editReals};
 ghost use Rattle.crossings.specs.Given.{bodyKnown, regionKnown, faceKnown, finKnown, carrierKnown, edgeGood, vertexGood, bodyGiven, regionGiven, shellGiven, faceGiven, loopGiven, finGiven, edgeGiven, vertexGiven, carrierGiven, edgeOwn, vertexOwn, carrierOwn};
-ghost use Rattle.fields.specs.Fields.{mark};
+ghost use Rattle.coded.specs.Tags.{mark};
 
 #[no_mangle]
 pub extern "C" fn brunskerl_set_body(

@@ -28,7 +28,8 @@ use Rattle.entity.specs.declared.records.Sense.the-variants as Senses
 use Rattle.entity.specs.declared.records.Ref.{Ref}
 use Rattle.entity.specs.declared.records.Ref.the-variants as Refs
 use Rattle.frame.specs.Put.{over}
-use Rattle.fields.specs.Fields.{kindTag, senseTag, mark, refTag, refId, toleranceTag, toleranceFloat, bodyFields, regionFields, shellFields, faceFields, loopFields, finFields, edgeFields, vertexFields, carrierFields, edgeFloats, vertexFloats, carrierFloats}
+use Rattle.coded.specs.Tags.{kindTag, senseTag, mark, refTag, refId, toleranceTag, toleranceFloat}
+use Rattle.fields.specs.Fields.{bodyFields, regionFields, shellFields, faceFields, loopFields, finFields, edgeFields, vertexFields, carrierFields, edgeFloats, vertexFloats, carrierFloats}
 use Rattle.written.specs.Meant.{meantKind, meantSense, meantRef}
 
 -- ---- what stands behind the fields is as it was

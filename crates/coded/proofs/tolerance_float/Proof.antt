@@ -1,8 +1,8 @@
--- `fields::tolerance_float` meets its contract, case by case. Assumes nothing.
+-- `coded::tolerance_float` meets its contract, case by case. Assumes nothing.
 use lib.Ieee.{ofBits}
 use borrow.Author.Needs.{needs}
-use Rattle.fields.proofs.tolerance_float.Statement.{statement}
-use Rattle.fields.proofs.tolerance_float.Tie as tie
+use Rattle.coded.proofs.tolerance_float.Statement.{statement}
+use Rattle.coded.proofs.tolerance_float.Tie as tie
 
 enum-told : tie.Need-enum-told
 enum-told c = search needs

@@ -1,7 +1,7 @@
--- `fields::tolerance_ok` meets its contract, case by case. Assumes nothing.
+-- `coded::tolerance_ok` meets its contract, case by case. Assumes nothing.
 use borrow.Author.Needs.{needs}
-use Rattle.fields.proofs.tolerance_ok.Statement.{statement}
-use Rattle.fields.proofs.tolerance_ok.Tie as tie
+use Rattle.coded.proofs.tolerance_ok.Statement.{statement}
+use Rattle.coded.proofs.tolerance_ok.Tie as tie
 
 enum-told : tie.Need-enum-told
 enum-told c = search needs
