@@ -1,5 +1,6 @@
 // Points held against curves and surfaces, what is found of it logged (`point_on_surface` and parts of `fin_geometry` of
 // gensolid-check's lib.rs). Tables 6 and 7 stand for the classes edge and vertex.
+use offsets::off_curve;
 use queried::Evaluated;
 use queried::Measured;
 use queried::Projected;
@@ -11,7 +12,6 @@ use reasons::note_if;
 use remarks::geometry_error;
 use remarks::note_off_curve;
 use remarks::sample_at;
-use signs::off_curve;
 use store::Found;
 use vectors::vector::Point3;
 ghost use Prim.Native.Nat.{_≤_, _<_};

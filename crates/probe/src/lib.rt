@@ -267,8 +267,8 @@ fn sign_test(op: u32, x: &[f64; 12]) -> Sign {
         29 => signs::increasing(first_vec(x), second_point(x), third_point(x)),
         30 => signs::span(x[0], x[1]),
         31 => signs::apart(first_point(x), second_point(x), x[6]),
-        32 => signs::off_plane(plane(x), third_point(x), x[9]),
-        _ => signs::off_curve(first_point(x), second_point(x), x[6], x[7]),
+        32 => offsets::off_plane(plane(x), third_point(x), x[9]),
+        _ => offsets::off_curve(first_point(x), second_point(x), x[6], x[7]),
     }
 }
 

@@ -1,12 +1,12 @@
--- `signs::off_curve` meets its contract: what its calls ensure, put together, is `offCurveS`. Assumes nothing.
+-- `offsets::off_curve` meets its contract: what its calls ensure, put together, is `offCurveS`. Assumes nothing.
 use mathlib.Core.Path.{ap, ap₂, _∙_}
 use borrow.Author.Needs.{needs}
 use Rattle.numbers.specs.Ops.{addI, subI, sqrI, signI}
 use Rattle.ranges.specs.declared.Interval3.{Interval3}
 use Rattle.ranges.specs.Ranges.{dotI}
 use Rattle.signs.specs.Signs.{offCurveS}
-use Rattle.signs.proofs.off_curve.Statement.{statement}
-use Rattle.signs.proofs.off_curve.Tie as tie
+use Rattle.offsets.proofs.off_curve.Statement.{statement}
+use Rattle.offsets.proofs.off_curve.Tie as tie
 
 vector-requires : tie.Need-vector-requires
 vector-requires c κs = search needs

@@ -1,11 +1,11 @@
--- `signs::off_plane` meets its contract: what its calls ensure, put together, is `offPlaneS`. Assumes nothing.
+-- `offsets::off_plane` meets its contract: what its calls ensure, put together, is `offPlaneS`. Assumes nothing.
 use mathlib.Core.Path.{ap, ap₂, _∙_}
 use borrow.Author.Needs.{needs}
 use Rattle.numbers.specs.Ops.{subI, sqrI, signI}
 use Rattle.ranges.specs.Ranges.{dotI}
 use Rattle.signs.specs.Signs.{offPlaneS}
-use Rattle.signs.proofs.off_plane.Statement.{statement}
-use Rattle.signs.proofs.off_plane.Tie as tie
+use Rattle.offsets.proofs.off_plane.Statement.{statement}
+use Rattle.offsets.proofs.off_plane.Tie as tie
 
 point3-requires : tie.Need-point3-requires
 point3-requires c κs = search needs
