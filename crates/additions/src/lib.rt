@@ -1,15 +1,15 @@
 // A record more that bears no tolerance, its fields as numbers: its id in a lent slot. A tag that is none gives 1, right after 9.
-use crossings::tags::body_known;
-use crossings::tags::carrier_known;
-use crossings::tags::face_known;
-use crossings::tags::fin_known;
-use crossings::tags::region_known;
-use crossings::tags::unknown_tag;
-use crossings::values::put_id;
+use crossings::put_id;
+use crossings::unknown_tag;
 use entity::records::carrier_of;
 use entity::records::kind_of;
 use entity::records::ref_at;
 use entity::records::sense_of;
+use forms::tags::body_known;
+use forms::tags::carrier_known;
+use forms::tags::face_known;
+use forms::tags::fin_known;
+use forms::tags::region_known;
 use inserts::insert_body;
 use inserts::insert_curve;
 use inserts::insert_face;

@@ -1,12 +1,12 @@
 // An edge or a vertex more, which may bear a tolerance of its own, its fields as numbers: its id in a lent slot. A tag that is none gives 1,
 // right after 9.
-use crossings::tags::face_known;
-use crossings::tags::own_known;
-use crossings::tags::point_of;
-use crossings::tags::unknown_tag;
-use crossings::values::put_id;
+use crossings::put_id;
+use crossings::unknown_tag;
 use entity::records::ref_at;
 use entity::records::tolerance_of;
+use forms::tags::face_known;
+use forms::tags::own_known;
+use forms::tags::point_of;
 use inserts::insert_edge;
 use inserts::insert_vertex;
 ghost use mathlib.Core.Path.{_≡_};

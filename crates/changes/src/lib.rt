@@ -1,15 +1,15 @@
 // Other fields in a record that has no sense, as numbers; its lists are kept. A tag that is none gives 1, right after 9.
-use crossings::tags::body_known;
-use crossings::tags::carrier_known;
-use crossings::tags::face_known;
-use crossings::tags::own_known;
-use crossings::tags::point_of;
-use crossings::tags::region_known;
-use crossings::tags::unknown_tag;
+use crossings::unknown_tag;
 use entity::records::carrier_of;
 use entity::records::kind_of;
 use entity::records::ref_at;
 use entity::records::tolerance_of;
+use forms::tags::body_known;
+use forms::tags::carrier_known;
+use forms::tags::face_known;
+use forms::tags::own_known;
+use forms::tags::point_of;
+use forms::tags::region_known;
 use sets::set_body;
 use sets::set_curve;
 use sets::set_edge;

@@ -1,10 +1,10 @@
 // What a C program asks of the records: the answer's number, and its values in lent slots, which a refusal leaves as they were.
 use bounds::Bounds;
 use bounds::edge_parameter_bounds;
-use crossings::tags::entity_of;
-use crossings::tags::unknown_tag;
-use crossings::values::mark_value;
-use crossings::values::tips_value;
+use crossings::mark_value;
+use crossings::tips_value;
+use crossings::unknown_tag;
+use forms::tags::entity_of;
 use model::entries::Entry;
 use present::Contained;
 use present::PrecisionFound;

@@ -1,16 +1,16 @@
 // The lookups of model.rs: a record's value in lent slots.
-use crossings::values::body_value;
-use crossings::values::edge_own;
-use crossings::values::edge_value;
-use crossings::values::face_value;
-use crossings::values::fin_value;
-use crossings::values::loop_value;
-use crossings::values::region_value;
-use crossings::values::shell_value;
-use crossings::values::vertex_own;
-use crossings::values::vertex_value;
 use fields::carrier_fields;
 use fields::carrier_floats;
+use forms::values::body_value;
+use forms::values::edge_own;
+use forms::values::edge_value;
+use forms::values::face_value;
+use forms::values::fin_value;
+use forms::values::loop_value;
+use forms::values::region_value;
+use forms::values::shell_value;
+use forms::values::vertex_own;
+use forms::values::vertex_value;
 use lookup::BodyFound;
 use lookup::CarrierFound;
 use lookup::EdgeFound;

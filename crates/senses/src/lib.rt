@@ -1,10 +1,10 @@
 // Other fields in a face or a fin, the records that have a sense, as numbers; a face's list is kept. A tag that is none gives 1, right
 // after 9.
-use crossings::tags::face_known;
-use crossings::tags::fin_known;
-use crossings::tags::unknown_tag;
+use crossings::unknown_tag;
 use entity::records::ref_at;
 use entity::records::sense_of;
+use forms::tags::face_known;
+use forms::tags::fin_known;
 use sets::set_face;
 use sets::set_fin;
 ghost use mathlib.Core.Path.{_≡_};

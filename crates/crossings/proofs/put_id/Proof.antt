@@ -1,0 +1,20 @@
+-- `crossings::put_id` meets its contract. Assumes nothing.
+use mathlib.Core.Path.{refl}
+use borrow.Author.Needs.{needs}
+use Rattle.crossings.proofs.put_id.Statement.{statement}
+use Rattle.crossings.proofs.put_id.Tie as tie
+
+enum-known-answer : tie.Need-enum-known-answer
+enum-known-answer c = search needs
+
+enum-known-answer-2 : tie.Need-enum-known-answer-2
+enum-known-answer-2 c = search needs
+
+returns : tie.Need-returns
+returns c = rw (c .before .before .answer .given .1) (refl, refl)
+
+returns-2 : tie.Need-returns-2
+returns-2 c = search needs
+
+pub put-id-spec : {M : Type 1} → statement M
+put-id-spec = tie.close (tie.spec enum-known-answer enum-known-answer-2 returns returns-2)

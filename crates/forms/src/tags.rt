@@ -1,0 +1,84 @@
+// The fields of a record as a C program hands them over: the numbers of `values`, without the lists. `specs/Given.antt` of `crossings`
+// says which fields they name.
+use present::EntityRef;
+use vectors::vector::Point3;
+ghost use mathlib.Core.Path.{_≡_};
+ghost use Prim.Native.Nat.{_<_};
+ghost use Rattle.model.specs.Decode.{pointAt};
+ghost use Rattle.crossings.specs.Given.{bodyKnown, regionKnown, faceKnown, finKnown, ownKnown, carrierKnown, entityOf};
+
+pub fn body_known(value: &[u32; 1]) -> bool
+    ensures { λ r. ⌜ r ≡ bodyKnown (now (value .entry)) ⌝ }
+{
+    value[0] <= 4
+}
+
+pub fn region_known(value: &[u32; 2]) -> bool
+    ensures { λ r. ⌜ r ≡ regionKnown (now (value .entry)) ⌝ }
+{
+    value[1] <= 1
+}
+
+// The tags of three optional ids and a sense or a tolerance.
+pub fn face_known(value: &[u32; 7]) -> bool
+    ensures { λ r. ⌜ r ≡ faceKnown (now (value .entry)) ⌝ }
+{
+    (value[0] <= 1) & (value[2] <= 1) & (value[4] <= 1) & (value[6] <= 1)
+}
+
+pub fn fin_known(value: &[u32; 4]) -> bool
+    ensures { λ r. ⌜ r ≡ finKnown (now (value .entry)) ⌝ }
+{
+    (value[2] <= 1) & (value[3] <= 1)
+}
+
+// The tag of a vertex's tolerance.
+pub fn own_known(value: &[u32; 1]) -> bool
+    ensures { λ r. ⌜ r ≡ ownKnown (now (value .entry)) ⌝ }
+{
+    value[0] <= 1
+}
+
+pub fn carrier_known(value: &[u32; 1]) -> bool
+    ensures { λ r. ⌜ r ≡ carrierKnown (now (value .entry)) ⌝ }
+{
+    value[0] <= 2
+}
+
+pub fn point_of(floats: &[f64; 4]) -> Point3
+    ensures { λ r. ⌜ r ≡ pointAt (now (floats .entry)) 0 ⌝ }
+{
+    Point3 {
+        x: floats[0],
+        y: floats[1],
+        z: floats[2],
+    }
+}
+
+// One of the first four classes.
+fn upper_entity(class: u32, id: usize) -> EntityRef
+    requires { ⌜ class < 4 ⌝ }
+    ensures { λ r. ⌜ r ≡ entityOf class id ⌝ }
+{
+    match class {
+        0 => EntityRef::Body(id),
+        1 => EntityRef::Region(id),
+        2 => EntityRef::Shell(id),
+        _ => EntityRef::Face(id),
+    }
+}
+
+// An entity by its class, which is the number of its table.
+pub fn entity_of(class: u32, id: usize) -> EntityRef
+    ensures { λ r. ⌜ r ≡ entityOf class id ⌝ }
+{
+    if class < 4 {
+        return upper_entity(class, id);
+    }
+    match class {
+        4 => EntityRef::Loop(id),
+        5 => EntityRef::Fin(id),
+        6 => EntityRef::Edge(id),
+        _ => EntityRef::Vertex(id),
+    }
+}

@@ -1,0 +1,97 @@
+// A record as numbers: its fields as `fields` lays them out, then the lengths of its lists.
+use entity::records::Body;
+use entity::records::Edge;
+use entity::records::Face;
+use entity::records::Fin;
+use entity::records::Loop;
+use entity::records::Region;
+use entity::records::Shell;
+use entity::records::Vertex;
+use fields::body_fields;
+use fields::edge_fields;
+use fields::edge_floats;
+use fields::face_fields;
+use fields::fin_fields;
+use fields::region_fields;
+use fields::vertex_fields;
+use fields::vertex_floats;
+ghost use mathlib.Core.Path.{_≡_};
+ghost use Rattle.fields.specs.Fields.{edgeFloats, vertexFields, vertexFloats};
+ghost use Rattle.crossings.specs.Crossing.{bodyValue, regionValue, shellValue, faceValue, loopValue, finValue, edgeValue};
+
+pub fn body_value(b: Body) -> [u32; 2]
+    ensures { λ r. ⌜ r ≡ bodyValue b ⌝ }
+{
+    let kind = b.kind;
+    let f = body_fields(kind);
+    [f[0], b.regions]
+}
+
+pub fn region_value(r: Region) -> [u32; 3]
+    ensures { λ v. ⌜ v ≡ regionValue r ⌝ }
+{
+    let f = region_fields(r.body, r.solid);
+    [f[0], f[1], r.shells]
+}
+
+pub fn shell_value(s: Shell) -> [u32; 4]
+    ensures { λ r. ⌜ r ≡ shellValue s ⌝ }
+{
+    [s.region, s.faces, s.wire_edges, s.acorn_vertices]
+}
+
+pub fn face_value(f: Face) -> [u32; 8]
+    ensures { λ r. ⌜ r ≡ faceValue f ⌝ }
+{
+    let front = f.front;
+    let back = f.back;
+    let surface = f.surface;
+    let sense = f.sense;
+    let v = face_fields(front, back, surface, sense);
+    [v[0], v[1], v[2], v[3], v[4], v[5], v[6], f.loops]
+}
+
+pub fn loop_value(l: Loop) -> [u32; 2]
+    ensures { λ r. ⌜ r ≡ loopValue l ⌝ }
+{
+    [l.face, l.fins]
+}
+
+pub fn fin_value(f: Fin) -> [u32; 4]
+    ensures { λ r. ⌜ r ≡ finValue f ⌝ }
+{
+    let sense = f.sense;
+    fin_fields(f.owner, f.edge, sense, f.pcurve)
+}
+
+pub fn edge_value(e: Edge) -> [u32; 8]
+    ensures { λ r. ⌜ r ≡ edgeValue e ⌝ }
+{
+    let start = e.start;
+    let end = e.end;
+    let curve = e.curve;
+    let tolerance = e.tolerance;
+    let v = edge_fields(start, end, curve, tolerance);
+    [v[0], v[1], v[2], v[3], v[4], v[5], v[6], e.fins]
+}
+
+pub fn edge_own(e: Edge) -> [f64; 1]
+    ensures { λ r. ⌜ r ≡ edgeFloats (e .tolerance) ⌝ }
+{
+    let tolerance = e.tolerance;
+    edge_floats(tolerance)
+}
+
+pub fn vertex_value(v: Vertex) -> [u32; 1]
+    ensures { λ r. ⌜ r ≡ vertexFields (v .tolerance) ⌝ }
+{
+    let tolerance = v.tolerance;
+    vertex_fields(tolerance)
+}
+
+pub fn vertex_own(v: Vertex) -> [f64; 4]
+    ensures { λ r. ⌜ r ≡ vertexFloats (v .point) (v .tolerance) ⌝ }
+{
+    let tolerance = v.tolerance;
+    vertex_floats(v.point, tolerance)
+}
