@@ -1,19 +1,27 @@
-// `body_bounding_box` of inquire.rs. specs/Answers.antt says what it answers.
-pub mod extents;
-
-use crate::extents::path_box;
+// What is answered when a bounding box is asked for (`body_bounding_box` of inquire.rs; specs/Answers.antt), and the box of the vertices that
+// a path lists. The call is crate `boxed`.
+use fetched::vertex_at;
 use figures::bbox::Aabb;
+use figures::bbox::Extent;
 use marks::clear;
-use paths::vertex_path;
-use polyhedral::polyhedral_refusal;
+use vectors::vector::Point3;
+use visits::all_listed;
+use visits::visit;
 ghost use mathlib.Core.Path.{_≡_};
+ghost use mathlib.Core.Bool.{true};
+ghost use mathlib.Core.List.{map};
+ghost use Prim.Native.Nat.{_≤_, _<_};
+ghost use lib.Dec.{ltb};
 ghost use lib.ListN.{length, replicate};
-ghost use Rattle.meaning.specs.Walks.{vertexWalk};
+ghost use Rattle.meaning.specs.Lists.{all, firsts};
+ghost use Rattle.meaning.specs.Model.{pointOf};
+ghost use Rattle.model.specs.Layout.{word};
 ghost use Rattle.model.specs.Decode.{decode};
 ghost use Rattle.model.specs.Fit.{Fit};
-ghost use Rattle.paths.specs.Paths.{Edged};
-ghost use Rattle.boxes.specs.Answers.{boxAnswer};
-ghost use Rattle.boxes.specs.Walked.{walkBox};
+ghost use Rattle.parts.specs.Parts.{Sources};
+ghost use Rattle.visits.specs.Visits.{idsOf};
+ghost use Rattle.figures.specs.Figures.{extentOf};
+ghost use Rattle.boxes.specs.Walked.{extentBox, walkBox};
 
 // The box, or the refusal's number.
 pub enum BoxFound {
@@ -21,53 +29,65 @@ pub enum BoxFound {
     Refused(u32),
 }
 
-// The box of a body whose walks are not refused. All marks come zero and are left so.
-fn bounding_box(
-    room: &[usize; 10],
-    words: &[u32],
-    reals: &[f64],
-    body: usize,
-    faces: &mut [u8],
-    edges: &mut [u8],
-    vertices: &mut [u8],
-) -> BoxFound
+// The point of a vertex.
+fn point_at(room: &[usize; 10], words: &[u32], reals: &[f64], i: usize) -> Point3
     requires { ⌜ Fit (now room) (now words) (now reals) ⌝ }
-    requires { ⌜ Edged (now room) (now words) body ⌝ }
-    requires { ⌜ now faces ≡ replicate (length (now faces)) 0 ⌝ }
-    requires { ⌜ now edges ≡ replicate (length (now edges)) 0 ⌝ }
-    requires { ⌜ now vertices ≡ replicate (length (now vertices)) 0 ⌝ }
-    ensures { λ r. ⌜ r ≡ walkBox (decode (now (room .entry)) (now (words .entry)) (now (reals .entry))) (vertexWalk (decode (now (room .entry)) (now (words .entry)) (now (reals .entry))) body) ⌝ }
-    ensures { λ _. ⌜ now (faces .exit) ≡ replicate (length (now (faces .entry))) 0 ⌝ }
-    ensures { λ _. ⌜ now (edges .exit) ≡ replicate (length (now (edges .entry))) 0 ⌝ }
-    ensures { λ _. ⌜ now (vertices .exit) ≡ replicate (length (now (vertices .entry))) 0 ⌝ }
+    requires { ⌜ i < word (now words) 7 ⌝ }
+    ensures { λ r. ⌜ r ≡ pointOf (decode (now (room .entry)) (now (words .entry)) (now (reals .entry))) i ⌝ }
 {
-    let mut path = [0u32; 2304];
-    let n = vertex_path(room, words, body, faces, edges, &mut path);
-    path_box(room, words, reals, &path[..n], vertices)
+    vertex_at(room, words, reals, i).point
 }
 
-// The box of a body's vertices. `faces`, `edges` and `vertices` are seen marks.
-pub fn body_bounding_box(
+// What is known of the vertices' points, met in order.
+fn extent(room: &[usize; 10], words: &[u32], reals: &[f64], ids: &[u32]) -> Extent
+    requires { ⌜ Fit (now room) (now words) (now reals) ⌝ }
+    requires { ⌜ all (λ v. ltb v (word (now words) 7)) (now ids) ≡ true ⌝ }
+    ensures { λ r. ⌜ r ≡ extentOf (map (pointOf (decode (now (room .entry)) (now (words .entry)) (now (reals .entry)))) (now (ids .entry))) ⌝ }
+{
+    let mut e = Extent::none();
+    let mut k = 0;
+    while k < ids.len() {
+        let point = point_at(room, words, reals, ids[k] as usize);
+        e = e.with(point);
+        k += 1;
+    }
+    e
+}
+
+// No vertex 4, a coordinate that is not finite 4.
+fn extent_box(e: Extent) -> BoxFound
+    ensures { λ r. ⌜ r ≡ extentBox e ⌝ }
+{
+    if e.empty {
+        return BoxFound::Refused(4);
+    }
+    if !e.finite {
+        return BoxFound::Refused(4);
+    }
+    let bounds = e.bounds;
+    BoxFound::Is(bounds)
+}
+
+// The box of what the path lists, each vertex at its first meeting; a missing vertex 2. The marks come all zero and are left so.
+pub fn path_box(
     room: &[usize; 10],
     words: &[u32],
     reals: &[f64],
-    body: usize,
-    faces: &mut [u8],
-    edges: &mut [u8],
-    vertices: &mut [u8],
+    path: &[u32],
+    marks: &mut [u8],
 ) -> BoxFound
-    ensures answer { λ r. ⌜ r ≡ boxAnswer (now (room .entry)) (now (words .entry)) (now (reals .entry)) body (now (faces .entry)) (now (edges .entry)) (now (vertices .entry)) ⌝ }
-    ensures faces { λ _. ⌜ now (faces .exit) ≡ replicate (length (now (faces .entry))) 0 ⌝ }
-    ensures edges { λ _. ⌜ now (edges .exit) ≡ replicate (length (now (edges .entry))) 0 ⌝ }
-    ensures vertices { λ _. ⌜ now (vertices .exit) ≡ replicate (length (now (vertices .entry))) 0 ⌝ }
+    requires { ⌜ Fit (now room) (now words) (now reals) ⌝ }
+    requires { ⌜ Sources (now room) (now words) (now path) ⌝ }
+    requires { ⌜ length (now path) ≤ 8448 ⌝ }
+    requires { ⌜ now marks ≡ replicate (length (now marks)) 0 ⌝ }
+    ensures { λ r. ⌜ r ≡ walkBox (decode (now (room .entry)) (now (words .entry)) (now (reals .entry))) (firsts (idsOf (now (room .entry)) (now (words .entry)) (now (path .entry)))) ⌝ }
+    ensures { λ _. ⌜ now (marks .exit) ≡ replicate (length (now (marks .entry))) 0 ⌝ }
 {
-    let enough = (room[3] <= faces.len()) & (room[6] <= edges.len()) & (room[7] <= vertices.len());
-    clear(faces);
-    clear(edges);
-    clear(vertices);
-    let n = polyhedral_refusal(room, words, reals, enough, body, faces);
-    if n != 0 {
-        return BoxFound::Refused(n);
+    if !all_listed(room, words, path, words[7]) {
+        return BoxFound::Refused(2);
     }
-    bounding_box(room, words, reals, body, faces, edges, vertices)
+    let mut list = [0u32; 2048];
+    let n = visit(room, words, path, marks, &mut list);
+    clear(marks);
+    extent_box(extent(room, words, reals, &list[..n]))
 }

@@ -1,5 +1,5 @@
 // Boxes, volumes, splits and reports as a C program asks for them: the answer's number, and its values in lent slots, which a refusal leaves as they were.
-use boxes::body_bounding_box;
+use boxed::body_bounding_box;
 use checker::check_body;
 use checker::fit_to_saw;
 use handed::put_box;

@@ -1,6 +1,6 @@
 // The rows of 01's table 'Trial stone', asked of the code and printed: a float as its bits, a refusal as its number.
+use boxed::body_bounding_box;
 use boxes::BoxFound;
-use boxes::body_bounding_box;
 use census::edges;
 use census::faces;
 use census::vertices;

@@ -1,8 +1,8 @@
--- `boxes::extents::point_at` meets its contract. Assumes nothing.
+-- `boxes::point_at` meets its contract. Assumes nothing.
 use Rattle.entity.specs.Seen.{seenVertex}
 use borrow.Author.Needs.{needs}
-use Rattle.boxes.proofs.extents.point_at.Statement.{statement}
-use Rattle.boxes.proofs.extents.point_at.Tie as tie
+use Rattle.boxes.proofs.point_at.Statement.{statement}
+use Rattle.boxes.proofs.point_at.Tie as tie
 
 vertex-at-requires : tie.Need-vertex-at-requires
 vertex-at-requires c κs = search needs

@@ -1,8 +1,8 @@
--- `boxes::extents::extent_box` meets its contract. Assumes nothing.
+-- `boxes::extent_box` meets its contract. Assumes nothing.
 use borrow.Author.Tests.{not-true, not-false}
 use Rattle.boxes.specs.Laws.{box-empty, box-infinite, box-given}
-use Rattle.boxes.proofs.extents.extent_box.Statement.{statement}
-use Rattle.boxes.proofs.extents.extent_box.Tie as tie
+use Rattle.boxes.proofs.extent_box.Statement.{statement}
+use Rattle.boxes.proofs.extent_box.Tie as tie
 
 returns : tie.Need-returns
 returns c = box-empty (c .before .args .e) (c .if1 .taken)

@@ -1,4 +1,4 @@
--- `boxes::extents::extent` meets its contract: a turn of the loop is one vertex more. Assumes nothing.
+-- `boxes::extent` meets its contract: a turn of the loop is one vertex more. Assumes nothing.
 use Prim.Native.Nat.{_≤_, _-_}
 use borrow.Author.Needs.{needs}
 use native.Mathlib.Omega.{arith}
@@ -12,8 +12,8 @@ use Rattle.model.specs.Layout.{word}
 use Rattle.model.specs.Decode.{decode}
 use Rattle.figures.specs.Figures.{extentOf}
 use Rattle.boxes.specs.Laws.{extent-turn}
-use Rattle.boxes.proofs.extents.extent.Statement.{statement}
-use Rattle.boxes.proofs.extents.extent.Tie as tie
+use Rattle.boxes.proofs.extent.Statement.{statement}
+use Rattle.boxes.proofs.extent.Tie as tie
 
 abbrev Inv-loop : tie.InvT-loop
 Inv-loop room words reals ids e₀ k₀ e k = (k ≤ length ids) × (e ≡ extentOf (map (pointOf (decode room words reals)) (take k ids)))

@@ -1,4 +1,4 @@
--- `boxes::bounding_box` meets its contract. Assumes nothing.
+-- `boxed::bounding_box` meets its contract. Assumes nothing.
 use native.Mathlib.Omega.{arith}
 use mathlib.Core.Path.{sym, ap, _∙_}
 use lib.ListN.{length}
@@ -7,10 +7,10 @@ use Rattle.model.specs.Decode.{decode}
 use Rattle.model.specs.Laws.{lists-of}
 use Rattle.paths.specs.Laws.{laid-short, laid-front, sources-front, vertex-path-short, vertex-sources}
 use Rattle.walks.specs.Laws.{marked-zeros, vertex-list}
 use Rattle.boxes.specs.Walked.{walkBox}
 use borrow.Author.Needs.{needs}
-use Rattle.boxes.proofs.bounding_box.Statement.{statement}
-use Rattle.boxes.proofs.bounding_box.Tie as tie
+use Rattle.boxed.proofs.bounding_box.Statement.{statement}
+use Rattle.boxed.proofs.bounding_box.Tie as tie
 
 slice-aggregate-vertex-path : tie.Need-slice-aggregate-vertex-path
 slice-aggregate-vertex-path c = search needs

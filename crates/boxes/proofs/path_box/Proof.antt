@@ -1,4 +1,4 @@
--- `boxes::extents::path_box` meets its contract. Assumes nothing.
+-- `boxes::path_box` meets its contract. Assumes nothing.
 use native.Mathlib.Omega.{arith}
 use mathlib.Core.Path.{_≡_, sym, ap, _∙_}
 use mathlib.Core.Bool.{true}
@@ -17,8 +17,8 @@ use Rattle.walks.specs.Laws.{marked-zeros}
 use Rattle.boxes.specs.Walked.{extentBox}
 use Rattle.boxes.specs.Laws.{box-missing, box-walked}
 use borrow.Author.Needs.{needs}
-use Rattle.boxes.proofs.extents.path_box.Statement.{statement}
-use Rattle.boxes.proofs.extents.path_box.Tie as tie
+use Rattle.boxes.proofs.path_box.Statement.{statement}
+use Rattle.boxes.proofs.path_box.Tie as tie
 
 shared-slice-read-all-listed : tie.Need-shared-slice-read-all-listed
 shared-slice-read-all-listed c =

@@ -1,13 +1,13 @@
--- `boxes::body_bounding_box` meets its contract. Assumes nothing.
+-- `boxed::body_bounding_box` meets its contract. Assumes nothing.
 use mathlib.Core.Path.{sym, _∙_}
 use mathlib.Core.Bool.{_&&_}
 use Rattle.walks.specs.Calls.{reach}
 use Rattle.walks.specs.Laws.{zeros-on, zeros-same}
 use Rattle.polyhedral.specs.Laws.{accepted-polyhedral, polyhedral-edged}
 use Rattle.boxes.specs.Laws.{box-refused, box-answered}
 use borrow.Author.Needs.{needs}
-use Rattle.boxes.proofs.body_bounding_box.Statement.{statement}
-use Rattle.boxes.proofs.body_bounding_box.Tie as tie
+use Rattle.boxed.proofs.body_bounding_box.Statement.{statement}
+use Rattle.boxed.proofs.body_bounding_box.Tie as tie
 
 element-copy-out-enough : tie.Need-element-copy-out-enough
 element-copy-out-enough c = search needs

@@ -1,0 +1,65 @@
+// `body_bounding_box` of inquire.rs. specs/Answers.antt of crate `boxes` says what it answers.
+use boxes::BoxFound;
+use boxes::path_box;
+use marks::clear;
+use paths::vertex_path;
+use polyhedral::polyhedral_refusal;
+ghost use mathlib.Core.Path.{_≡_};
+ghost use lib.ListN.{length, replicate};
+ghost use Rattle.meaning.specs.Walks.{vertexWalk};
+ghost use Rattle.model.specs.Decode.{decode};
+ghost use Rattle.model.specs.Fit.{Fit};
+ghost use Rattle.paths.specs.Paths.{Edged};
+ghost use Rattle.boxes.specs.Answers.{boxAnswer};
+ghost use Rattle.boxes.specs.Walked.{walkBox};
+
+// The box of a body whose walks are not refused. All marks come zero and are left so.
+fn bounding_box(
+    room: &[usize; 10],
+    words: &[u32],
+    reals: &[f64],
+    body: usize,
+    faces: &mut [u8],
+    edges: &mut [u8],
+    vertices: &mut [u8],
+) -> BoxFound
+    requires { ⌜ Fit (now room) (now words) (now reals) ⌝ }
+    requires { ⌜ Edged (now room) (now words) body ⌝ }
+    requires { ⌜ now faces ≡ replicate (length (now faces)) 0 ⌝ }
+    requires { ⌜ now edges ≡ replicate (length (now edges)) 0 ⌝ }
+    requires { ⌜ now vertices ≡ replicate (length (now vertices)) 0 ⌝ }
+    ensures { λ r. ⌜ r ≡ walkBox (decode (now (room .entry)) (now (words .entry)) (now (reals .entry))) (vertexWalk (decode (now (room .entry)) (now (words .entry)) (now (reals .entry))) body) ⌝ }
+    ensures { λ _. ⌜ now (faces .exit) ≡ replicate (length (now (faces .entry))) 0 ⌝ }
+    ensures { λ _. ⌜ now (edges .exit) ≡ replicate (length (now (edges .entry))) 0 ⌝ }
+    ensures { λ _. ⌜ now (vertices .exit) ≡ replicate (length (now (vertices .entry))) 0 ⌝ }
+{
+    let mut path = [0u32; 2304];
+    let n = vertex_path(room, words, body, faces, edges, &mut path);
+    path_box(room, words, reals, &path[..n], vertices)
+}
+
+// The box of a body's vertices. `faces`, `edges` and `vertices` are seen marks.
+pub fn body_bounding_box(
+    room: &[usize; 10],
+    words: &[u32],
+    reals: &[f64],
+    body: usize,
+    faces: &mut [u8],
+    edges: &mut [u8],
+    vertices: &mut [u8],
+) -> BoxFound
+    ensures answer { λ r. ⌜ r ≡ boxAnswer (now (room .entry)) (now (words .entry)) (now (reals .entry)) body (now (faces .entry)) (now (edges .entry)) (now (vertices .entry)) ⌝ }
+    ensures faces { λ _. ⌜ now (faces .exit) ≡ replicate (length (now (faces .entry))) 0 ⌝ }
+    ensures edges { λ _. ⌜ now (edges .exit) ≡ replicate (length (now (edges .entry))) 0 ⌝ }
+    ensures vertices { λ _. ⌜ now (vertices .exit) ≡ replicate (length (now (vertices .entry))) 0 ⌝ }
+{
+    let enough = (room[3] <= faces.len()) & (room[6] <= edges.len()) & (room[7] <= vertices.len());
+    clear(faces);
+    clear(edges);
+    clear(vertices);
+    let n = polyhedral_refusal(room, words, reals, enough, body, faces);
+    if n != 0 {
+        return BoxFound::Refused(n);
+    }
+    bounding_box(room, words, reals, body, faces, edges, vertices)
+}
