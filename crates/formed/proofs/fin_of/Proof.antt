@@ -1,11 +1,11 @@
--- `entity::records::fin_of` meets its contract. Assumes nothing.
+-- `formed::fin_of` meets its contract. Assumes nothing.
 use lib.Dec.{lit<}
 use Rattle.model.specs.Layout.{word}
 use Rattle.model.specs.Decode.{flagAt}
 use Rattle.entity.specs.Seen.{seenFin}
 use Rattle.entity.specs.Laws.{within}
-use Rattle.entity.proofs.records.fin_of.Statement.{statement}
-use Rattle.entity.proofs.records.fin_of.Tie as tie
+use Rattle.formed.proofs.fin_of.Statement.{statement}
+use Rattle.formed.proofs.fin_of.Tie as tie
 
 shared-slice-read-t3 : tie.Need-shared-slice-read-t3
 shared-slice-read-t3 c = within 0 (c .before .before .pre) (lit< tt)

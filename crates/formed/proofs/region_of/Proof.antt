@@ -1,9 +1,9 @@
--- `entity::records::region_of` meets its contract. Assumes nothing.
+-- `formed::region_of` meets its contract. Assumes nothing.
 use Rattle.entity.specs.Seen.{seenRegion}
 use Rattle.model.specs.Laws.{held-length}
 use borrow.Author.Needs.{needs}
-use Rattle.entity.proofs.records.region_of.Statement.{statement}
-use Rattle.entity.proofs.records.region_of.Tie as tie
+use Rattle.formed.proofs.region_of.Statement.{statement}
+use Rattle.formed.proofs.region_of.Tie as tie
 
 shared-slice-read-t3 : tie.Need-shared-slice-read-t3
 shared-slice-read-t3 c = search needs

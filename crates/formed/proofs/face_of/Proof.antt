@@ -1,11 +1,11 @@
--- `entity::records::face_of` meets its contract. Assumes nothing.
+-- `formed::face_of` meets its contract. Assumes nothing.
 use mathlib.Core.Path.{sym}
 use native.Mathlib.Nat.{lt-of-le-of-lt}
 use lib.Dec.{lit≤}
 use Rattle.entity.specs.Seen.{seenFace}
 use Rattle.model.specs.Laws.{held-length}
-use Rattle.entity.proofs.records.face_of.Statement.{statement}
-use Rattle.entity.proofs.records.face_of.Tie as tie
+use Rattle.formed.proofs.face_of.Statement.{statement}
+use Rattle.formed.proofs.face_of.Tie as tie
 
 ref-at-requires : tie.Need-ref-at-requires
 ref-at-requires c κs = lt-of-le-of-lt (lit≤ tt) (c .before .pre .place)

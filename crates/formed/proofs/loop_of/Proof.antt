@@ -1,9 +1,9 @@
--- `entity::records::loop_of` meets its contract. Assumes nothing.
+-- `formed::loop_of` meets its contract. Assumes nothing.
 use Rattle.entity.specs.Seen.{seenLoop}
 use Rattle.model.specs.Laws.{held-length}
 use borrow.Author.Needs.{needs}
-use Rattle.entity.proofs.records.loop_of.Statement.{statement}
-use Rattle.entity.proofs.records.loop_of.Tie as tie
+use Rattle.formed.proofs.loop_of.Statement.{statement}
+use Rattle.formed.proofs.loop_of.Tie as tie
 
 shared-slice-read-t3 : tie.Need-shared-slice-read-t3
 shared-slice-read-t3 c = search needs

@@ -1,9 +1,9 @@
--- `entity::records::shell_of` meets its contract. Assumes nothing.
+-- `formed::shell_of` meets its contract. Assumes nothing.
 use Rattle.entity.specs.Seen.{seenShell}
 use Rattle.model.specs.Laws.{held-length}
 use borrow.Author.Needs.{needs}
-use Rattle.entity.proofs.records.shell_of.Statement.{statement}
-use Rattle.entity.proofs.records.shell_of.Tie as tie
+use Rattle.formed.proofs.shell_of.Statement.{statement}
+use Rattle.formed.proofs.shell_of.Tie as tie
 
 shared-slice-read-t3 : tie.Need-shared-slice-read-t3
 shared-slice-read-t3 c = search needs

@@ -1,9 +1,9 @@
--- `entity::records::vertex_of` meets its contract. Assumes nothing.
+-- `formed::vertex_of` meets its contract. Assumes nothing.
 use lib.Dec.{lit<}
 use Rattle.entity.specs.Seen.{seenVertex}
 use Rattle.entity.specs.Laws.{within}
-use Rattle.entity.proofs.records.vertex_of.Statement.{statement}
-use Rattle.entity.proofs.records.vertex_of.Tie as tie
+use Rattle.formed.proofs.vertex_of.Statement.{statement}
+use Rattle.formed.proofs.vertex_of.Tie as tie
 
 point-of-requires : tie.Need-point-of-requires
 point-of-requires c κs = within 2 (c .before .before .pre .1) (lit< tt)

@@ -1,11 +1,11 @@
--- `entity::records::body_of` meets its contract. Assumes nothing.
+-- `formed::body_of` meets its contract. Assumes nothing.
 use mathlib.Core.Path.{sym}
 use native.Mathlib.Nat.{lt-of-le-of-lt}
 use lib.Dec.{lit≤}
 use Rattle.entity.specs.Seen.{seenBody}
 use Rattle.model.specs.Laws.{held-length}
-use Rattle.entity.proofs.records.body_of.Statement.{statement}
-use Rattle.entity.proofs.records.body_of.Tie as tie
+use Rattle.formed.proofs.body_of.Statement.{statement}
+use Rattle.formed.proofs.body_of.Tie as tie
 
 shared-slice-read-kind-of : tie.Need-shared-slice-read-kind-of
 shared-slice-read-kind-of c = lt-of-le-of-lt (lit≤ tt) (c .before .before .pre .place)

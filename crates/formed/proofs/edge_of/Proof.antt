@@ -1,12 +1,12 @@
--- `entity::records::edge_of` meets its contract. Assumes nothing.
+-- `formed::edge_of` meets its contract. Assumes nothing.
 use mathlib.Core.Path.{sym}
 use native.Mathlib.Nat.{lt-of-le-of-lt}
 use lib.Dec.{lit<, lit≤}
 use Rattle.entity.specs.Seen.{seenEdge}
 use Rattle.entity.specs.Laws.{within}
 use Rattle.model.specs.Laws.{held-length}
-use Rattle.entity.proofs.records.edge_of.Statement.{statement}
-use Rattle.entity.proofs.records.edge_of.Tie as tie
+use Rattle.formed.proofs.edge_of.Statement.{statement}
+use Rattle.formed.proofs.edge_of.Tie as tie
 
 ref-at-requires : tie.Need-ref-at-requires
 ref-at-requires c κs = lt-of-le-of-lt (lit≤ tt) (c .before .before .pre .0 .place)
