@@ -1,107 +1,22 @@
--- The tests of an edge as the code makes them, and what they leave known. Assumes nothing.
-use Prim.Native.Nat.{ℕ, zero, suc, _≤_, _<_}
-use native.Mathlib.Omega.{arith}
-use native.Mathlib.Nat.{le-trans}
+-- The tests of `edge_parameter_bounds` as the code makes them. Assumes nothing.
+use Prim.Native.Nat.{ℕ, zero, suc}
 use mathlib.Core.Path.{_≡_, refl, sym, ap, _∙_}
-use mathlib.Core.Bool.{Bool, true, false, not, cond, _&&_}
-use mathlib.Core.List.{List, [], _∷_}
-use mathlib.Core.Option.{none, some}
-use lib.Dec.{eqb, ltb}
-use lib.ListN.{length}
+use mathlib.Core.List.{List}
 use lib.Ieee.{Float}
-use borrow.Author.Tests.{ltb-true}
 use Rattle.geometry.specs.Refuse.{_unless_, _then_, answer}
-use Rattle.store.specs.declared.Found.{Found}
-use Rattle.store.specs.declared.Found.the-variants.{There, Missing}
-use Rattle.store.specs.declared.Carrier.the-variants as Carriers
-use Rattle.store.specs.Queries.{lineRefusal, theLine}
-use Rattle.meaning.specs.Lists.{the, isSome}
-use Rattle.meaning.specs.Model.{Model, has, curve, pointOf}
+use Rattle.meaning.specs.Model.{Model}
 use Rattle.meaning.specs.Refuse.{firstRefusal}
-use Rattle.meaning.specs.Split.{carrier, startPoint, endPoint, lo, hi, test2, test4, test5, test6, test7, test8, boundsRefusal}
-use Rattle.lists.specs.Tests.{and-both, then-zero, then-none, unless-zero}
-use Rattle.model.specs.Layout.{wordStrides, word, wordsOf}
-use Rattle.model.specs.Decode.{flagAt, decode}
+use Rattle.meaning.specs.Split.{lo, hi, test2, test4, test5, test6, test7, test8, boundsRefusal}
+use Rattle.lists.specs.Tests.{then-zero, then-none, unless-zero}
+use Rattle.model.specs.Decode.{decode}
 use Rattle.model.specs.Readable.{readable}
-use Rattle.model.specs.Fit.{Sized, Fit}
-use Rattle.model.specs.Laws.{before-tables, fit-of}
+use Rattle.model.specs.Fit.{Fit}
+use Rattle.model.specs.Laws.{fit-of}
 use Rattle.segments.specs.Segment.{segmentAt, low, high, spanRefusal}
-use Rattle.bounds.specs.Ends.{carrierRefusal, endsRefusal}
+use Rattle.straight.specs.Ends.{endsRefusal}
 use Rattle.bounds.specs.Answers.{boundsNumber}
 
--- the used counts are there
-pub counts-there : (room w : List ℕ) (x : List Float) → Sized room w x → 10 ≤ length w
-counts-there room w x s = le-trans (before-tables 10 wordStrides room 10) (s .words)
-
--- no line is read where there is none
-pub no-line : (f : Found) (n : ℕ) → lineRefusal f ≡ suc n → theLine Missing ≡ theLine f
-unfolding lineRefusal theLine
-no-line Missing n e = refl
-no-line (There (Carriers.Line l)) n e = absurd (omega arith)
-no-line (There (Carriers.Plane s)) n e = refl
-no-line (There Carriers.Other) n e = refl
-
--- ---- an optional id, as its tag's test and its id
-
-tests : (m : Model) (a b c : Bool) (i j k : ℕ)
-    → (7 unless isSome (cond a none (some i)) && isSome (cond b none (some j))
-    then (1 unless isSome (cond c none (some k)) then lineRefusal (curve m (the (cond c none (some k)))))
-    then (2 unless has (m .vertices) (the (cond a none (some i))) then 2 unless has (m .vertices) (the (cond b none (some j))))
-    then 0)
-    ≡ (7 unless not a && not b
-    then 1 unless not c
-    then lineRefusal (curve m k)
-    then 2 unless has (m .vertices) i
-    then 2 unless has (m .vertices) j)
-tests m true b c i j k = refl
-tests m false true c i j k = refl
-tests m false false true i j k = refl
-tests m false false false i j k =
-    ap (λ (n : ℕ). lineRefusal (curve m k) then n) (then-none (2 unless has (m .vertices) i then 2 unless has (m .vertices) j))
-
-given : (b : Bool) (i : ℕ) → not b ≡ true → i ≡ the (cond b none (some i))
-given true i e = absurd (let z : _≡_ {A = ℕ} 0 1 = cc in omega arith)
-given false i e = refl
-
--- ---- tests 2 and 4 to 6, and what they leave known
-
-pub record Ended (room w : List ℕ) (x : List Float) (e : ℕ) : Type 0 where
-  pub there : e < word w 6
-  pub start : word (wordsOf room w 6 e) 1 < word w 7
-  pub end : word (wordsOf room w 6 e) 3 < word w 7
-  pub line : theLine (curve (decode room w x) (word (wordsOf room w 6 e) 5)) ≡ carrier (decode room w x) e
-  pub start-point : pointOf (decode room w x) (word (wordsOf room w 6 e) 1) ≡ startPoint (decode room w x) e
-  pub end-point : pointOf (decode room w x) (word (wordsOf room w 6 e) 3) ≡ endPoint (decode room w x) e
-
-module _ (room w : List ℕ) (x : List Float) (e : ℕ) where
-  pub ends-tests : test2 (decode room w x) e then carrierRefusal (decode room w x) (wordsOf room w 6 e) ≡ endsRefusal (decode room w x) e
-  unfolding endsRefusal carrierRefusal firstRefusal decode
-  ends-tests =
-      ap (λ (n : ℕ). test2 (decode room w x) e then n)
-      (sym (tests (decode room w x) (eqb (word (wordsOf room w 6 e) 0) 0) (eqb (word (wordsOf room w 6 e) 2) 0) (eqb (word (wordsOf room w 6 e) 4) 0)
-      (word (wordsOf room w 6 e) 1) (word (wordsOf room w 6 e) 3) (word (wordsOf room w 6 e) 5)))
-
-  pub ended : endsRefusal (decode room w x) e ≡ 0 → Ended room w x e
-  unfolding carrierRefusal decode
-  ended z =
-      let m = decode room w x in
-      let s = wordsOf room w 6 e in
-      let a = then-zero (test2 m e) (carrierRefusal m s) (ends-tests ∙ z) in
-      let b = then-zero (7 unless flagAt s 0 && flagAt s 2) _ (a .1) in
-      let f = and-both (flagAt s 0) (flagAt s 2) (unless-zero 6 _ (b .0)) in
-      let d = then-zero (1 unless flagAt s 4) _ (b .1) in
-      let g = then-zero (lineRefusal (curve m (word s 5))) _ (d .1) in
-      let h = then-zero (2 unless has (m .vertices) (word s 1)) (2 unless has (m .vertices) (word s 3)) (g .1) in
-      record {
-        there = ltb-true e (word w 6) (unless-zero 1 _ (a .0));
-        start = ltb-true (word s 1) (word w 7) (unless-zero 1 _ (h .0));
-        end = ltb-true (word s 3) (word w 7) (unless-zero 1 _ (h .1));
-        line = ap (λ (i : ℕ). theLine (curve m i)) (given (eqb (word s 4) 0) (word s 5) (unless-zero 0 _ (d .0)));
-        start-point = ap (pointOf m) (given (eqb (word s 0) 0) (word s 1) (f .0));
-        end-point = ap (pointOf m) (given (eqb (word s 2) 0) (word s 3) (f .1));
-      }
-
--- ---- and tests 7 and 8
+-- ---- tests 2 and 4 to 6, and tests 7 and 8
 
 two-rows : (a b c d e f : ℕ) → ((a then b then c then d then 0) then e then f) ≡ (a then b then c then d then e then f then 0)
 two-rows zero zero zero zero e f = ap (λ (n : ℕ). e then n) (sym (then-none f))

@@ -1,11 +1,8 @@
-// `edge_parameter_bounds` of euler.rs, and what the split asks about its edge too. `specs/Answers.antt` says what it answers.
-pub mod carriers;
-pub mod ends;
-
-use crate::ends::ends_refusal;
-use crate::ends::segment_at;
+// `edge_parameter_bounds` of euler.rs, and its tests, which the split makes too. `specs/Answers.antt` says what it answers.
 use legible::readable;
 use segments::segment::span_refusal;
+use straight::ends_refusal;
+use straight::segment_at;
 ghost use mathlib.Core.Path.{_≡_};
 ghost use Rattle.meaning.specs.Split.{boundsRefusal};
 ghost use Rattle.model.specs.Decode.{decode};

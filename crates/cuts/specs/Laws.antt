@@ -27,7 +27,7 @@ use Rattle.model.specs.Entries.{listOf}
 use Rattle.model.specs.Fit.{Sized}
 use Rattle.model.specs.Laws.{before-tables}
 use Rattle.segments.specs.Segment.{segmentAt, low, high, spanRefusal}
-use Rattle.bounds.specs.Ends.{endsRefusal}
+use Rattle.straight.specs.Ends.{endsRefusal}
 use Rattle.bounds.specs.Laws.{bounds-tests}
 use Rattle.uses.specs.Uses.{cutAt, onceEach, pcurveTest, finTest}
 use Rattle.uses.specs.Facts.{Present}

@@ -1,4 +1,6 @@
 // Record i of each table, read off the lent memory.
+pub mod carriers;
+
 use entity::records::Body;
 use entity::records::Edge;
 use entity::records::Face;

@@ -1,7 +1,7 @@
 // What is found of a fin (`fin` and `fin_geometry` of gensolid-check's lib.rs).
-use bounds::carriers::curve_found;
-use bounds::carriers::surface_found;
 use entity::records::Ref;
+use fetched::carriers::curve_found;
+use fetched::carriers::surface_found;
 use fetched::edge_at;
 use fetched::fin_at;
 use geometry::tolerance::effective_tolerance;

@@ -1,7 +1,7 @@
 // One face's surface, and one edge's curve. In both records word 4 is the carrier's tag, word 5 its id.
-use bounds::carriers::curve_found;
-use bounds::carriers::line_refusal;
-use bounds::carriers::surface_found;
+use fetched::carriers::curve_found;
+use fetched::carriers::line_refusal;
+use fetched::carriers::surface_found;
 use model::layout::words_of;
 use segments::refusals::then;
 use segments::refusals::unless;

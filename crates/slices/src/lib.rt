@@ -1,5 +1,5 @@
 // Whether the faces of an edge hold it: test 11 from the face on.
-use bounds::carriers::surface_found;
+use fetched::carriers::surface_found;
 use geometry::surface::Plane;
 use model::layout::words_of;
 use numbers::Sign;

@@ -7,7 +7,7 @@ use lib.Ieee.{Float}
 use Rattle.model.specs.Layout.{word}
 use Rattle.model.specs.Decode.{decode}
 use Rattle.model.specs.Fit.{Fit}
-use Rattle.bounds.specs.Ends.{endsRefusal}
+use Rattle.straight.specs.Ends.{endsRefusal}
 
 -- the edge's line and ends can be read, and there is a slot for an edge and for a vertex
 pub record Open (room w : List ℕ) (x : List Float) (e : ℕ) : Type 0 where

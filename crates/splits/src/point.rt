@@ -1,8 +1,8 @@
 // The new vertex's point, and the floats of the new records.
 use added::floats::put_floats;
-use bounds::ends::segment_at;
 use cuts::cut_of;
 use model::layout::reals_of;
+use straight::segment_at;
 use vectors::vector::Point3;
 ghost use mathlib.Core.Path.{_≡_};
 ghost use Prim.Native.Nat.{_<_};
@@ -10,7 +10,7 @@ ghost use Rattle.meaning.specs.Split.{splitPoint};
 ghost use Rattle.model.specs.Layout.{word, real, realsOf};
 ghost use Rattle.model.specs.Decode.{decode};
 ghost use Rattle.model.specs.Fit.{Fit};
-ghost use Rattle.bounds.specs.Ends.{endsRefusal};
+ghost use Rattle.straight.specs.Ends.{endsRefusal};
 ghost use Rattle.splits.specs.After.{realsSplit};
 ghost use Rattle.splits.specs.Facts.{Open};
 

@@ -1,6 +1,5 @@
 // Why an edge is not split: the thirteen tests of euler.rs's `split_line_edge`, in 01's order, before anything is written.
 use bounds::bounds_refusal;
-use bounds::ends::segment_at;
 use cuts::cut_of;
 use cuts::edge_tolerance;
 use cuts::fraction_ok;
@@ -9,6 +8,7 @@ use legible::readable;
 use listing::list;
 use segments::refusals::then;
 use segments::refusals::unless;
+use straight::segment_at;
 use uses::fins::fins_refusal;
 use uses::fins::pcurves_refusal;
 use vacant::tables::capacity_fits;

@@ -7,7 +7,7 @@ use lib.ListN.{length}
 use borrow.Author.Tests.{lt-ltb, le-ltb}
 use Rattle.model.specs.Layout.{word}
 use Rattle.model.specs.Laws.{used-inside, words-length}
-use Rattle.bounds.specs.Laws.{counts-there}
+use Rattle.entity.specs.Laws.{counts-there}
 use Rattle.slices.specs.Slices.{faceTest}
 use borrow.Author.Needs.{needs}
 use Rattle.slices.proofs.face_refusal.Statement.{statement}

@@ -8,7 +8,7 @@ use lib.Dec.{ltb}
 use Rattle.model.specs.Layout.{word}
 use Rattle.model.specs.Decode.{decode}
 use Rattle.model.specs.Laws.{lists-of}
-use Rattle.bounds.specs.Laws.{counts-there}
+use Rattle.entity.specs.Laws.{counts-there}
 use Rattle.cuts.specs.Cuts.{fractionOk}
 use Rattle.cuts.specs.Laws.{pcurve-row, edge-rows}
 use Rattle.thirteen.proofs.edge_refusal.Statement.{statement}

@@ -1,12 +1,12 @@
--- `bounds::carriers::the_line` meets its contract. Assumes nothing.
+-- `fetched::carriers::the_line` meets its contract. Assumes nothing.
 use mathlib.Core.Path.{sym, _∙_}
 use Rattle.store.specs.Queries.{lineRefusal, theLine, lineAnswer}
 use Rattle.store.specs.Laws.{line-refused, line-given}
-use Rattle.bounds.specs.Laws.{no-line}
+use Rattle.fetched.specs.Laws.{no-line}
 use lib.Ieee.{ofBits}
 use borrow.Author.Needs.{needs}
-use Rattle.bounds.proofs.carriers.the_line.Statement.{statement}
-use Rattle.bounds.proofs.carriers.the_line.Tie as tie
+use Rattle.fetched.proofs.carriers.the_line.Statement.{statement}
+use Rattle.fetched.proofs.carriers.the_line.Tie as tie
 
 line-of-requires : tie.Need-line-of-requires
 line-of-requires c κs = search needs

@@ -1,5 +1,5 @@
 // Carriers by id.
-use fetched::found;
+use crate::found;
 use geometry::curve::Line;
 use store::Found;
 use store::LineFound;

@@ -1,10 +1,10 @@
--- `bounds::carriers::line_refusal` meets its contract. Assumes nothing.
+-- `fetched::carriers::line_refusal` meets its contract. Assumes nothing.
 use mathlib.Core.Path.{sym, _∙_}
 use Rattle.store.specs.Queries.{lineRefusal, theLine, lineAnswer}
 use Rattle.store.specs.Laws.{line-refused, line-given}
 use borrow.Author.Needs.{needs}
-use Rattle.bounds.proofs.carriers.line_refusal.Statement.{statement}
-use Rattle.bounds.proofs.carriers.line_refusal.Tie as tie
+use Rattle.fetched.proofs.carriers.line_refusal.Statement.{statement}
+use Rattle.fetched.proofs.carriers.line_refusal.Tie as tie
 
 line-of-requires : tie.Need-line-of-requires
 line-of-requires c κs = search needs

@@ -1,8 +1,8 @@
 // What the tests of an edge read off the lent memory: `carrier` of euler.rs, and the two points. An edge's words are start
 // tag, id, end tag, id, curve tag, id.
-use crate::carriers::curve_found;
-use crate::carriers::line_refusal;
-use crate::carriers::the_line;
+use fetched::carriers::curve_found;
+use fetched::carriers::line_refusal;
+use fetched::carriers::the_line;
 use fetched::vertex_at;
 use model::layout::words_of;
 use segments::refusals::then;
@@ -17,7 +17,7 @@ ghost use Rattle.model.specs.Layout.{word};
 ghost use Rattle.model.specs.Decode.{decode};
 ghost use Rattle.model.specs.Fit.{Sized, Fit};
 ghost use Rattle.segments.specs.Segment.{segmentAt};
-ghost use Rattle.bounds.specs.Ends.{carrierRefusal, endsRefusal};
+ghost use Rattle.straight.specs.Ends.{carrierRefusal, endsRefusal};
 
 // Tests 4 to 6, of the edge's words.
 fn carrier_refusal(room: &[usize; 10], words: &[u32], reals: &[f64], w: &[u32]) -> u32

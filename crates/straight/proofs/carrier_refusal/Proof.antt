@@ -1,4 +1,4 @@
--- `bounds::ends::carrier_refusal` meets its contract. Assumes nothing.
+-- `straight::carrier_refusal` meets its contract. Assumes nothing.
 use native.Mathlib.Nat.{lt-of-lt-of-le}
 use native.Mathlib.Omega.{arith}
 use lib.Dec.{lit<}
@@ -6,11 +6,10 @@ use mathlib.Core.Path.{ap, ap₂, _∙_}
 use Rattle.geometry.specs.Refuse.{_then_}
 use Rattle.store.specs.Queries.{lineRefusal}
 use Rattle.model.specs.Decode.{decode}
-use Rattle.bounds.specs.Ends.{carrierRefusal}
-use Rattle.entity.specs.Laws.{within}
-use Rattle.bounds.specs.Laws.{counts-there}
-use Rattle.bounds.proofs.ends.carrier_refusal.Statement.{statement}
-use Rattle.bounds.proofs.ends.carrier_refusal.Tie as tie
+use Rattle.straight.specs.Ends.{carrierRefusal}
+use Rattle.entity.specs.Laws.{within, counts-there}
+use Rattle.straight.proofs.carrier_refusal.Statement.{statement}
+use Rattle.straight.proofs.carrier_refusal.Tie as tie
 
 shared-slice-read-curve-found : tie.Need-shared-slice-read-curve-found
 shared-slice-read-curve-found c = within 5 (c .before .before .before .before .pre .1) (lit< tt)

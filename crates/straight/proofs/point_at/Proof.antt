@@ -1,8 +1,8 @@
--- `bounds::ends::point_at` meets its contract. Assumes nothing.
+-- `straight::point_at` meets its contract. Assumes nothing.
 use Rattle.entity.specs.Seen.{seenVertex}
 use borrow.Author.Needs.{needs}
-use Rattle.bounds.proofs.ends.point_at.Statement.{statement}
-use Rattle.bounds.proofs.ends.point_at.Tie as tie
+use Rattle.straight.proofs.point_at.Statement.{statement}
+use Rattle.straight.proofs.point_at.Tie as tie
 
 vertex-at-requires : tie.Need-vertex-at-requires
 vertex-at-requires c κs = search needs

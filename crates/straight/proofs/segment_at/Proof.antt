@@ -1,4 +1,4 @@
--- `bounds::ends::segment_at` meets its contract. Assumes nothing.
+-- `straight::segment_at` meets its contract. Assumes nothing.
 use native.Mathlib.Omega.{arith}
 use mathlib.Core.Path.{_≡_, ap, _∙_}
 use lib.Dec.{lit<}
@@ -6,9 +6,9 @@ use lib.ListN.{length}
 use Rattle.model.specs.Laws.{used-inside, words-length}
 use Rattle.segments.specs.Segment.{segmentAt}
 use Rattle.entity.specs.Laws.{within}
-use Rattle.bounds.specs.Laws.{ended}
-use Rattle.bounds.proofs.ends.segment_at.Statement.{statement}
-use Rattle.bounds.proofs.ends.segment_at.Tie as tie
+use Rattle.straight.specs.Laws.{ended}
+use Rattle.straight.proofs.segment_at.Statement.{statement}
+use Rattle.straight.proofs.segment_at.Tie as tie
 
 words-of-requires : tie.Need-words-of-requires
 words-of-requires c κs =

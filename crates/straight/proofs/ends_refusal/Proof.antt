@@ -1,4 +1,4 @@
--- `bounds::ends::ends_refusal` meets its contract. Assumes nothing.
+-- `straight::ends_refusal` meets its contract. Assumes nothing.
 use native.Mathlib.Omega.{arith}
 use mathlib.Core.Path.{_≡_, ap, _∙_}
 use mathlib.Core.Bool.{true, false}
@@ -9,9 +9,10 @@ use borrow.Author.Tests.{lt-ltb, le-ltb}
 use Rattle.model.specs.Layout.{word}
 use Rattle.model.specs.Decode.{decode}
 use Rattle.model.specs.Laws.{used-inside, words-length}
-use Rattle.bounds.specs.Laws.{counts-there, ends-tests}
-use Rattle.bounds.proofs.ends.ends_refusal.Statement.{statement}
-use Rattle.bounds.proofs.ends.ends_refusal.Tie as tie
+use Rattle.entity.specs.Laws.{counts-there}
+use Rattle.straight.specs.Laws.{ends-tests}
+use Rattle.straight.proofs.ends_refusal.Statement.{statement}
+use Rattle.straight.proofs.ends_refusal.Tie as tie
 
 shared-slice-read-if1 : tie.Need-shared-slice-read-if1
 shared-slice-read-if1 c = let s = c .before .before .before in let n = counts-there (s .args .room .now) (s .args .words .now) (s .args .reals .now) (s .pre .sized) in omega arith
