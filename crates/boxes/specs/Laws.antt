@@ -23,7 +23,8 @@ use Rattle.figures.specs.Laws.{finite-map}
 use Rattle.walks.specs.Calls.{reach}
 use Rattle.walks.specs.Decoded.{refusedBy}
 use Rattle.walks.specs.Laws.{all-firsts-same, refused-before}
-use Rattle.polyhedral.specs.Laws.{map-turn, polyhedral-vertices}
+use Rattle.marks.specs.Laws.{map-turn}
+use Rattle.polyhedral.specs.Laws.{polyhedral-vertices}
 use Rattle.boxes.specs.declared.BoxFound.{BoxFound}
 use Rattle.boxes.specs.declared.BoxFound.the-variants.{Is, Refused}
 use Rattle.boxes.specs.Answers.{boxNumber, boxAnswer}

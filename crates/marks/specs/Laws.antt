@@ -11,9 +11,11 @@ use lib.Dec.{eqb, ltb}
 use lib.ListN.{length, getD, set, take, drop, length-set, length-append, replicate, length-replicate, getD-replicate}
 use lib.Seq.{sets, length-sets, sets-eq, length-take-le, take-suc, take-at, getD-set-same, getD-set-other}
 use borrow.Author.Tests.{ltb-true, lt-ltb, eqb-true, eqb-false, eq-eqb, ne-eqb}
+use Rattle.geometry.specs.Refuse.{_then_}
 use Rattle.meaning.specs.Lists.{all, member, joined, count}
+use Rattle.meaning.specs.Refuse.{firstOf}
 use Rattle.meaning.specs.Formed.{bit}
-use Rattle.lists.specs.Tests.{and-both, or-false}
+use Rattle.lists.specs.Tests.{and-both, or-false, firstOf-snoc}
 use Rattle.lists.specs.Lists.{member-none, member-snoc, all-snoc, joined-snoc, count-absent, count-member, count-less, count-above, lessOne, length-less, all-counted, all-at, member-counted, count-present}
 use Rattle.marks.specs.Marks.{Marked, puts}
 
@@ -22,7 +24,7 @@ use Rattle.marks.specs.Marks.{Marked, puts}
 pub take-more : {A : Type 0} (l : List A) (k : ℕ) (d : A) → k < length l → take (k + 1) l ≡ take k l ++ (getD l k d ∷ [])
 take-more l k d h = ap (λ n. take n l) (add-one k) ∙ take-suc l k d h
 
--- a turn of a loop that tests each entry, that looks for x, that goes by each entry's list
+-- a turn of a loop that tests each entry, that looks for x, that goes by each entry's list, that keeps the first refusal, that takes something of each entry
 pub all-turn : (p : ℕ → Bool) (l : List ℕ) (k : ℕ) (ok x : Bool) → k < length l → ok ≡ all p (take k l) → x ≡ p (getD l k 0) → (ok && x) ≡ all p (take (k + 1) l)
 all-turn p l k ok x h e f = cc (ap (all p) (take-more l k 0 h), all-snoc p (take k l) (getD l k 0))
 
@@ -31,6 +33,16 @@ member-turn x l k found t h e f = cc (ap (member x) (take-more l k 0 h), member-
 
 pub joined-turn : (f : ℕ → List ℕ) (l : List ℕ) (k : ℕ) → k < length l → joined f (take (k + 1) l) ≡ joined f (take k l) ++ f (getD l k 0)
 joined-turn f l k h = ap (joined f) (take-more l k 0 h) ∙ joined-snoc f (take k l) (getD l k 0)
+
+pub first-turn : (f : ℕ → ℕ) (l : List ℕ) (k n p : ℕ) → k < length l → n ≡ firstOf f (take k l) → p ≡ f (getD l k 0) → (n then p) ≡ firstOf f (take (k + 1) l)
+first-turn f l k n p h e g = rw (e, g) (sym (ap (firstOf f) (take-more l k 0 h) ∙ firstOf-snoc f (take k l) (getD l k 0)))
+
+pub map-turn : {A : Type 0} (f : ℕ → A) (l : List ℕ) (k : ℕ) → k < length l → map f (take (k + 1) l) ≡ map f (take k l) ++ (f (getD l k 0) ∷ [])
+map-turn f l k h = ap (map f) (take-more l k 0 h) ∙ one (take k l) (getD l k 0)
+  where
+    one : (l : List ℕ) (y : ℕ) → map f (l ++ (y ∷ [])) ≡ map f l ++ (f y ∷ [])
+    one [] y = refl
+    one (z ∷ l) y = ap (λ t. f z ∷ t) (one l y)
 
 -- a test that every entry passes
 pub all-nth : (p : ℕ → Bool) (l : List ℕ) (k : ℕ) → all p l ≡ true → k < length l → p (getD l k 0) ≡ true

@@ -2,7 +2,7 @@
 use Prim.Native.Nat.{ℕ, zero, suc, _+_, _<_}
 use mathlib.Core.Path.{_≡_, refl, sym, ap, _∙_}
 use mathlib.Core.Bool.{Bool, true, false, cond, not, _&&_, _||_, false≢true}
-use mathlib.Core.List.{List, [], _∷_, _++_, map}
+use mathlib.Core.List.{List, [], _∷_, _++_}
 use mathlib.Core.Option.{none, some}
 use lib.Dec.{eqb, ltb}
 use lib.ListN.{length, getD, take}
@@ -22,7 +22,7 @@ use Rattle.model.specs.Decode.{decode, flagAt}
 use Rattle.model.specs.Readable.{readable}
 use Rattle.model.specs.Fit.{Fit}
 use Rattle.model.specs.Laws.{fit-of}
-use Rattle.marks.specs.Laws.{take-more, joined-turn}
+use Rattle.marks.specs.Laws.{joined-turn}
 use Rattle.visits.specs.Visits.{idsOf}
 use Rattle.paths.specs.Paths.{facePath, faceList, edgePath, edgeList, bodyFollowed, facesThere, loopsFollowed, edgesThere, Edged}
 use Rattle.paths.specs.Laws.{shelled-of, faced-of, looped-of, edged-of}
@@ -31,24 +31,11 @@ use Rattle.walks.specs.Decoded.{refusedBy}
 use Rattle.walks.specs.Laws.{face-list, edge-list, faces-refusal, edges-refusal, vertices-refusal, accepted}
 use Rattle.polyhedral.specs.Carried.{carried}
 
--- ---- the first refusal of a list
-
-pub first-turn : (f : ℕ → ℕ) (l : List ℕ) (k n p : ℕ) → k < length l → n ≡ firstOf f (take k l) → p ≡ f (getD l k 0) → (n then p) ≡ firstOf f (take (k + 1) l)
-first-turn f l k n p h e g = rw (e, g) (sym (ap (firstOf f) (take-more l k 0 h) ∙ firstOf-snoc f (take k l) (getD l k 0)))
-
 -- a turn of a loop over the sources of a path
 pub path-turn : (f : ℕ → ℕ) (g : ℕ → List ℕ) (path : List ℕ) (q n p : ℕ) (l : List ℕ) → q < length path → n ≡ firstOf f (joined g (take q path)) → p ≡ firstOf f l → l ≡ g (getD path q 0)
     → (n then p) ≡ firstOf f (joined g (take (q + 1) path))
 path-turn f g path q n p l h e d s =
     rw (e, d, s) (sym (ap (firstOf f) (joined-turn g path q h) ∙ firstOf-append f (joined g (take q path)) (g (getD path q 0))))
-
--- a turn of a loop that takes something of each entry
-pub map-turn : {A : Type 0} (f : ℕ → A) (l : List ℕ) (k : ℕ) → k < length l → map f (take (k + 1) l) ≡ map f (take k l) ++ (f (getD l k 0) ∷ [])
-map-turn f l k h = ap (map f) (take-more l k 0 h) ∙ one (take k l) (getD l k 0)
-  where
-    one : (l : List ℕ) (y : ℕ) → map f (l ++ (y ∷ [])) ≡ map f l ++ (f y ∷ [])
-    one [] y = refl
-    one (z ∷ l) y = ap (λ t. f z ∷ t) (one l y)
 
 -- where none is refused, a test that passes for what is not refused passes for all
 pub first-all : (f : ℕ → ℕ) (p : ℕ → Bool) (l : List ℕ) → ((y : ℕ) → f y ≡ 0 → p y ≡ true) → firstOf f l ≡ 0 → all p l ≡ true

@@ -23,7 +23,7 @@ use Rattle.model.specs.Decode.{flagAt, maybeAt, decode}
 use Rattle.parts.specs.Parts.{finEdge}
 use Rattle.polygons.specs.Polygons.{pointsOf, withPoint}
 use Rattle.polygons.specs.Laws.{point-more}
-use Rattle.polyhedral.specs.Laws.{map-turn}
+use Rattle.marks.specs.Laws.{map-turn}
 use Rattle.starts.specs.Starts.{startPlace, endNumber, startNumber, startId, startPoint, finWhole, Whole}
 
 pub whole-of : (room w : List ℕ) (i : ℕ) → finWhole room w i ≡ true → Whole room w i

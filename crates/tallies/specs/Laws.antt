@@ -19,10 +19,9 @@ use Rattle.lists.specs.Lists.{all-none, joined-none, joined-snoc}
 use Rattle.model.specs.Layout.{word, wordsOf}
 use Rattle.model.specs.Decode.{flagAt, decode}
 use Rattle.model.specs.Entries.{listOf}
-use Rattle.marks.specs.Laws.{take-more}
+use Rattle.marks.specs.Laws.{take-more, map-turn}
 use Rattle.parts.specs.Parts.{followed}
 use Rattle.parts.specs.Laws.{followed-slot, followed-entries}
-use Rattle.polyhedral.specs.Laws.{map-turn}
 use Rattle.tallies.specs.declared.Tally.{Tally}
 use Rattle.tallies.specs.Tallies.{tallyOf, regionSides, solidShells, facesWhole, regionWhole}
 

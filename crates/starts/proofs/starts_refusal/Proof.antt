@@ -7,8 +7,7 @@ use lib.ListN.{length, getD, take}
 use lib.Seq.{take-all}
 use Rattle.meaning.specs.Refuse.{firstOf}
 use Rattle.lists.specs.Tests.{firstOf-none}
-use Rattle.marks.specs.Laws.{all-nth}
-use Rattle.polyhedral.specs.Laws.{first-turn}
+use Rattle.marks.specs.Laws.{all-nth, first-turn}
 use Rattle.starts.specs.Starts.{startNumber, finWhole}
 use Rattle.starts.specs.Laws.{whole-of}
 use Rattle.starts.proofs.starts_refusal.Statement.{statement}

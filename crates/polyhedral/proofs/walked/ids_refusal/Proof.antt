@@ -8,8 +8,8 @@ use lib.Seq.{take-all}
 use Rattle.meaning.specs.Refuse.{firstOf}
 use Rattle.lists.specs.Tests.{firstOf-none}
 use Rattle.model.specs.Decode.{decode}
+use Rattle.marks.specs.Laws.{first-turn}
 use Rattle.polyhedral.specs.Carried.{carried}
-use Rattle.polyhedral.specs.Laws.{first-turn}
 use Rattle.polyhedral.proofs.walked.ids_refusal.Statement.{statement}
 use Rattle.polyhedral.proofs.walked.ids_refusal.Tie as tie
 
