@@ -1,9 +1,9 @@
 // `body_bounding_box` of inquire.rs. specs/Answers.antt of crate `boxes` says what it answers.
-use boxes::BoxFound;
 use boxes::path_box;
 use marks::clear;
 use paths::vertex_path;
 use polyhedral::polyhedral_refusal;
+use replies::BoxFound;
 ghost use mathlib.Core.Path.{_≡_};
 ghost use lib.ListN.{length, replicate};
 ghost use Rattle.meaning.specs.Walks.{vertexWalk};

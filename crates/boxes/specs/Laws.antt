@@ -25,8 +25,8 @@ use Rattle.walks.specs.Decoded.{refusedBy}
 use Rattle.walks.specs.Laws.{all-firsts-same, refused-before}
 use Rattle.marks.specs.Laws.{map-turn}
 use Rattle.polyhedral.specs.Laws.{polyhedral-vertices}
-use Rattle.boxes.specs.declared.BoxFound.{BoxFound}
-use Rattle.boxes.specs.declared.BoxFound.the-variants.{Is, Refused}
+use Rattle.replies.specs.declared.BoxFound.{BoxFound}
+use Rattle.replies.specs.declared.BoxFound.the-variants.{Is, Refused}
 use Rattle.boxes.specs.Answers.{boxNumber, boxAnswer}
 use Rattle.boxes.specs.Walked.{extentBox, walkNumber, walkBox}
 

@@ -11,8 +11,8 @@ use Rattle.meaning.specs.Refuse.{_if_}
 use Rattle.meaning.specs.Inquire.{boxOf}
 use Rattle.figures.specs.declared.bbox.Extent.{Extent}
 use Rattle.figures.specs.Figures.{seenBox}
-use Rattle.boxes.specs.declared.BoxFound.{BoxFound}
-use Rattle.boxes.specs.declared.BoxFound.the-variants.{Is, Refused}
+use Rattle.replies.specs.declared.BoxFound.{BoxFound}
+use Rattle.replies.specs.declared.BoxFound.the-variants.{Is, Refused}
 
 unfoldable pub extentBox : Extent → BoxFound
 extentBox e = answer Is Refused (4 if (e .empty) then 4 unless (e .finite)) (e .bounds)

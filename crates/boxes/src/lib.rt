@@ -4,6 +4,7 @@ use fetched::vertex_at;
 use figures::bbox::Aabb;
 use figures::bbox::Extent;
 use marks::clear;
+use replies::BoxFound;
 use vectors::vector::Point3;
 use visits::all_listed;
 use visits::visit;
@@ -22,12 +23,6 @@ ghost use Rattle.parts.specs.Parts.{Sources};
 ghost use Rattle.visits.specs.Visits.{idsOf};
 ghost use Rattle.figures.specs.Figures.{extentOf};
 ghost use Rattle.boxes.specs.Walked.{extentBox, walkBox};
-
-// The box, or the refusal's number.
-pub enum BoxFound {
-    Is(Aabb),
-    Refused(u32),
-}
 
 // The point of a vertex.
 fn point_at(room: &[usize; 10], words: &[u32], reals: &[f64], i: usize) -> Point3

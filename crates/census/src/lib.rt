@@ -1,8 +1,8 @@
 // What there is of the trial stone, by the calls.
-use checker::Checked;
 use checker::check_body;
 use lookup::EdgeFound;
 use lookup::edge;
+use replies::Checked;
 use stones::ROOM;
 use tours::write_edges;
 use tours::write_faces;

@@ -12,11 +12,11 @@ use Rattle.model.specs.Decode.{decode}
 use Rattle.model.specs.Readable.{readable}
 use Rattle.reasons.specs.Log.{faultsWords}
 use Rattle.walks.specs.Calls.{reach, handed, inFront}
-use Rattle.checker.specs.declared.Counts.{Counts}
-use Rattle.checker.specs.declared.Checked.{Checked}
-use Rattle.checker.specs.declared.Checked.the-variants as Checks
-use Rattle.checker.specs.declared.Sawable.{Sawable}
-use Rattle.checker.specs.declared.Sawable.the-variants as Saws
+use Rattle.replies.specs.declared.Counts.{Counts}
+use Rattle.replies.specs.declared.Checked.{Checked}
+use Rattle.replies.specs.declared.Checked.the-variants as Checks
+use Rattle.replies.specs.declared.Sawable.{Sawable}
+use Rattle.replies.specs.declared.Sawable.the-variants as Saws
 
 -- whether geometry is checked, and with how many samples to an edge
 abbrev pub asked : Bool → ℕ → CheckOptions

@@ -23,10 +23,10 @@ use Rattle.walks.specs.Calls.{reach, handed, inFront}
 use Rattle.walks.specs.Decoded.{refusedBy}
 use Rattle.asking.specs.Facts.{askRefusal}
 use Rattle.bodies.specs.Bodies.{nothingYet}
-use Rattle.checker.specs.declared.Counts.{Counts}
-use Rattle.checker.specs.declared.Checked.{Checked}
-use Rattle.checker.specs.declared.Checked.the-variants as Checks
-use Rattle.checker.specs.declared.Sawable.the-variants as Saws
+use Rattle.replies.specs.declared.Counts.{Counts}
+use Rattle.replies.specs.declared.Checked.{Checked}
+use Rattle.replies.specs.declared.Checked.the-variants as Checks
+use Rattle.replies.specs.declared.Sawable.the-variants as Saws
 use Rattle.checker.specs.Calls.{asked, seenCounts, reportOn, checkNumber, checkAnswer, checkWords, fitAnswer}
 
 -- ---- entries put from the front on, as far as the list goes

@@ -4,6 +4,9 @@ use asking::kept_of;
 use asking::refusal;
 use bodies::body_findings;
 use marks::clear;
+use replies::Checked;
+use replies::Counts;
+use replies::Sawable;
 ghost use mathlib.Core.Path.{_≡_};
 ghost use mathlib.Core.Bool.{true};
 ghost use Prim.Native.Nat.{_≤_, _<_, _/_};
@@ -14,25 +17,6 @@ ghost use Rattle.model.specs.Readable.{readable};
 ghost use Rattle.reasons.specs.Log.{faultsWords};
 ghost use Rattle.walks.specs.Calls.{inFront};
 ghost use Rattle.checker.specs.Calls.{asked, reportOn, seenCounts, checkAnswer, checkWords, fitAnswer};
-
-// How many faults there are, how many were kept, and how many checks could not be made.
-pub struct Counts {
-    pub faults: usize,
-    pub kept: usize,
-    pub unchecked: usize,
-}
-
-// The report's counts, or the refusal's number.
-pub enum Checked {
-    Is(Counts),
-    Refused(u32),
-}
-
-// Whether a body is fit to saw, or the refusal's number.
-pub enum Sawable {
-    Is(bool),
-    Refused(u32),
-}
 
 // The report, its faults put into as many whole entries as the list has. The marks come all zero and are left so.
 fn check(

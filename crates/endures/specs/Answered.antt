@@ -12,8 +12,8 @@ use Rattle.model.specs.Layout.{word}
 use Rattle.model.specs.Decode.{decode}
 use Rattle.model.specs.Readable.{readable}
 use Rattle.cuts.specs.Rows.{limits, splitNumber}
-use Rattle.splits.specs.declared.EdgeSplit.{EdgeSplit}
-use Rattle.splits.specs.declared.Split.the-variants.{Is, Refused}
+use Rattle.replies.specs.declared.EdgeSplit.{EdgeSplit}
+use Rattle.replies.specs.declared.Split.the-variants.{Is, Refused}
 use Rattle.splits.specs.After.{splitAnswer}
 use Rattle.laws.specs.Terms.{OneMore, SameWalks}
 

@@ -13,8 +13,8 @@ use Rattle.model.specs.Decode.{decode}
 use Rattle.model.specs.Readable.{readable}
 use Rattle.frame.specs.Change.{SameModel}
 use Rattle.cuts.specs.Rows.{limits}
-use Rattle.splits.specs.declared.EdgeSplit.{EdgeSplit}
-use Rattle.splits.specs.declared.Split.the-variants.{Is}
+use Rattle.replies.specs.declared.EdgeSplit.{EdgeSplit}
+use Rattle.replies.specs.declared.Split.the-variants.{Is}
 use Rattle.splits.specs.After.{splitAnswer, splitWords, splitReals}
 use Rattle.laws.specs.Terms.{OneMore, SameWalks, eulerNumber}
 use Rattle.laws.specs.After.{bodies-kept}

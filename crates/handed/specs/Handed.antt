@@ -6,16 +6,16 @@ use mathlib.Core.List.{List, [], _∷_}
 use lib.Dec.{eqb}
 use lib.Ieee.{Float}
 use Rattle.figures.specs.declared.bbox.Aabb.{Aabb}
-use Rattle.boxes.specs.declared.BoxFound.{BoxFound}
-use Rattle.boxes.specs.declared.BoxFound.the-variants as Boxes
-use Rattle.volumes.specs.declared.Volume.{Volume}
-use Rattle.volumes.specs.declared.Volume.the-variants as Volumes
-use Rattle.checker.specs.declared.Checked.{Checked}
-use Rattle.checker.specs.declared.Checked.the-variants as Checks
-use Rattle.checker.specs.declared.Sawable.{Sawable}
-use Rattle.checker.specs.declared.Sawable.the-variants as Saws
-use Rattle.splits.specs.declared.Split.{Split}
-use Rattle.splits.specs.declared.Split.the-variants as Splits
+use Rattle.replies.specs.declared.BoxFound.{BoxFound}
+use Rattle.replies.specs.declared.BoxFound.the-variants as Boxes
+use Rattle.replies.specs.declared.Volume.{Volume}
+use Rattle.replies.specs.declared.Volume.the-variants as Volumes
+use Rattle.replies.specs.declared.Checked.{Checked}
+use Rattle.replies.specs.declared.Checked.the-variants as Checks
+use Rattle.replies.specs.declared.Sawable.{Sawable}
+use Rattle.replies.specs.declared.Sawable.the-variants as Saws
+use Rattle.replies.specs.declared.Split.{Split}
+use Rattle.replies.specs.declared.Split.the-variants as Splits
 
 -- the least corner, then the greatest
 unfoldable pub cornersValue : Aabb → List Float

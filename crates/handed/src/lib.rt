@@ -1,10 +1,10 @@
 // How the answers of boxes, volumes, splits and reports cross to C: the number, and the values in lent slots, which a refusal leaves as they were.
-use boxes::BoxFound;
-use checker::Checked;
-use checker::Sawable;
 use figures::bbox::Aabb;
-use splits::Split;
-use volumes::Volume;
+use replies::BoxFound;
+use replies::Checked;
+use replies::Sawable;
+use replies::Split;
+use replies::Volume;
 ghost use mathlib.Core.Path.{_≡_};
 ghost use mathlib.Core.Bool.{cond};
 ghost use Rattle.handed.specs.Handed.{cornersValue, cornersNumber, cornersSlots, amountNumber, amountSlots, madeNumber, madeSlots, checkedNumber, checkedSlots, sawableNumber, sawableSlots};

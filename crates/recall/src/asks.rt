@@ -5,19 +5,19 @@ use crate::rows::sum;
 use bounds::Bounds;
 use bounds::edge_parameter_bounds;
 use boxed::body_bounding_box;
-use boxes::BoxFound;
-use checker::Checked;
 use checker::check_body;
 use digits::same;
 use entity::records::Ref;
-use splits::Split;
+use replies::BoxFound;
+use replies::Checked;
+use replies::Split;
+use replies::Volume;
 use splits::split_line_edge;
 use tips::FinVertices;
 use tips::fin_vertices;
 use tours::write_edges;
 use tours::write_faces;
 use tours::write_vertices;
-use volumes::Volume;
 use volumes::body_volume;
 
 // A walk: its number, how many ids, and their sum.

@@ -11,8 +11,8 @@ use Rattle.frame.specs.Put.{unlessRefused}
 use Rattle.pieces.specs.Pieces.{floatsPut}
 use Rattle.seams.specs.Written.{wordsSplit}
 use Rattle.cuts.specs.Rows.{splitNumber}
-use Rattle.splits.specs.declared.Split.{Split}
-use Rattle.splits.specs.declared.Split.the-variants.{Is, Refused}
+use Rattle.replies.specs.declared.Split.{Split}
+use Rattle.replies.specs.declared.Split.the-variants.{Is, Refused}
 
 -- all floats: the edge's own tolerance for the new edge and the new vertex, "lo + (hi - lo)·fraction" on its line for the point
 unfoldable pub realsSplit : List ℕ → List ℕ → List Float → ℕ → Float → List Float

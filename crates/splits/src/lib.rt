@@ -3,23 +3,12 @@
 pub mod point;
 
 use crate::point::write_floats;
+use replies::EdgeSplit;
+use replies::Split;
 use seams::write_split;
 use thirteen::split_refusal;
 ghost use mathlib.Core.Path.{_≡_};
 ghost use Rattle.splits.specs.After.{splitAnswer, splitWords, splitReals};
-
-// The edge, kept as the first half, the second half, and the vertex between them.
-pub struct EdgeSplit {
-    pub original_edge: u32,
-    pub new_edge: u32,
-    pub vertex: u32,
-}
-
-// What a split made, or the refusal's number.
-pub enum Split {
-    Is(EdgeSplit),
-    Refused(u32),
-}
 
 // Splits a straight edge at a fraction of its range.
 pub fn split_line_edge(

@@ -1,22 +1,22 @@
 // The rows of 01's table 'Trial stone', asked of the code and printed: a float as its bits, a refusal as its number.
 use boxed::body_bounding_box;
-use boxes::BoxFound;
 use census::edges;
 use census::faces;
 use census::vertices;
-use checker::Checked;
 use checker::check_body;
 use digits::bits_of;
 use listed::strike_entry;
 use lookup::VertexFound;
 use lookup::vertex;
 use numbers::Interval;
-use splits::Split;
+use replies::BoxFound;
+use replies::Checked;
+use replies::Split;
+use replies::Volume;
 use splits::split_line_edge;
 use stones::ROOM;
 use stones::trial_stone;
 use vectors::vector::Point3;
-use volumes::Volume;
 use volumes::body_volume;
 
 fn print_float(x: f64) {

@@ -5,7 +5,7 @@ use census::faces;
 use census::faults;
 use census::fins;
 use census::vertices;
-use splits::Split;
+use replies::Split;
 use splits::split_line_edge;
 use stones::ROOM;
 use stones::trial_stone;

@@ -8,8 +8,8 @@ use Rattle.meaning.specs.Inquire.{solidSides, sumVolumes, volumeRefusal}
 use Rattle.model.specs.Decode.{decode}
 use Rattle.model.specs.Readable.{readable}
 use Rattle.walks.specs.Calls.{reach}
-use Rattle.volumes.specs.declared.Volume.{Volume}
-use Rattle.volumes.specs.declared.Volume.the-variants.{Is, Refused}
+use Rattle.replies.specs.declared.Volume.{Volume}
+use Rattle.replies.specs.declared.Volume.the-variants.{Is, Refused}
 
 module _ (room w : List ℕ) (x : List Float) (b : ℕ) (faceMarks : List ℕ) where
   unfoldable pub volumeNumber : ℕ

@@ -24,8 +24,8 @@ use Rattle.walks.specs.Decoded.{refusedBy}
 use Rattle.walks.specs.Laws.{refused-before}
 use Rattle.tallies.specs.declared.Tally.{Tally}
 use Rattle.tallies.specs.Tallies.{tallyOf, regionSides}
-use Rattle.volumes.specs.declared.Volume.{Volume}
-use Rattle.volumes.specs.declared.Volume.the-variants.{Is, Refused}
+use Rattle.replies.specs.declared.Volume.{Volume}
+use Rattle.replies.specs.declared.Volume.the-variants.{Is, Refused}
 use Rattle.volumes.specs.Answers.{volumeNumber, volumeAnswer}
 use Rattle.volumes.specs.Told.{toldVolume, solidNumber, solidVolume}
 

@@ -11,8 +11,8 @@ use Rattle.meaning.specs.Inquire.{solidSides, sumVolumes, volumeRefusal, bodyVo
 use Rattle.model.specs.Decode.{decode}
 use Rattle.model.specs.Readable.{readable}
 use Rattle.walks.specs.Calls.{reach}
-use Rattle.volumes.specs.declared.Volume.{Volume}
-use Rattle.volumes.specs.declared.Volume.the-variants.{Is, Refused}
+use Rattle.replies.specs.declared.Volume.{Volume}
+use Rattle.replies.specs.declared.Volume.the-variants.{Is, Refused}
 use Rattle.volumes.specs.Answers.{volumeNumber, volumeAnswer}
 
 -- an answer of meaning, as the enum has it

@@ -8,8 +8,8 @@ use Rattle.meaning.specs.Model.{Model, body}
 use Rattle.meaning.specs.Refuse.{_if_}
 use Rattle.meaning.specs.Inquire.{isSolid, solidSides, sidesRefusal, sumVolumes}
 use Rattle.tallies.specs.declared.Tally.{Tally}
-use Rattle.volumes.specs.declared.Volume.{Volume}
-use Rattle.volumes.specs.declared.Volume.the-variants.{Is, Refused}
+use Rattle.replies.specs.declared.Volume.{Volume}
+use Rattle.replies.specs.declared.Volume.the-variants.{Is, Refused}
 
 unfoldable pub toldVolume : Tally → Volume
 toldVolume t = answer Is Refused ((t .refused) then 4 if (t .empty)) (t .volume)

@@ -3,6 +3,7 @@ use listing::list;
 use marks::clear;
 use model::layout::words_of;
 use polyhedral::polyhedral_refusal;
+use replies::Volume;
 use segments::refusals::then;
 use segments::refusals::unless;
 use tallies::Tally;
@@ -15,12 +16,6 @@ ghost use Rattle.model.specs.Fit.{Fit};
 ghost use Rattle.paths.specs.Paths.{Edged};
 ghost use Rattle.volumes.specs.Answers.{volumeAnswer};
 ghost use Rattle.volumes.specs.Told.{toldVolume, solidVolume};
-
-// The volume, or the refusal's number.
-pub enum Volume {
-    Is(f64),
-    Refused(u32),
-}
 
 // By a body's tag: is it solid?
 fn is_solid(tag: u32) -> bool

@@ -1,6 +1,6 @@
 use Rattle.splits.specs.Rooms.{accepted, slots, listing, opening}
 use Rattle.splits.specs.After.{splitAnswer, splitWords, splitReals}
-use Rattle.splits.specs.declared.Split.the-variants.{Is, Refused}
+use Rattle.replies.specs.declared.Split.the-variants.{Is, Refused}
 use Rattle.cuts.specs.Rows.{splitNumber}
 use Rattle.frame.specs.Kept.{refused-keeps}
 use Rattle.lists.specs.Tests.{refused-answer}
