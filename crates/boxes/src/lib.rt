@@ -1,7 +1,6 @@
 // What is answered when a bounding box is asked for (`body_bounding_box` of inquire.rs; specs/Answers.antt), and the box of the vertices that
 // a path lists. The call is crate `boxed`.
 use fetched::vertex_at;
-use figures::bbox::Aabb;
 use figures::bbox::Extent;
 use marks::clear;
 use replies::BoxFound;
