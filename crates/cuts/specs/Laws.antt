@@ -29,9 +29,11 @@ use Rattle.model.specs.Laws.{before-tables}
 use Rattle.segments.specs.Segment.{segmentAt, low, high, spanRefusal}
 use Rattle.straight.specs.Ends.{endsRefusal}
 use Rattle.bounds.specs.Laws.{bounds-tests}
-use Rattle.uses.specs.Uses.{cutAt, onceEach, pcurveTest, finTest}
-use Rattle.uses.specs.Facts.{Present}
-use Rattle.uses.specs.Laws.{pcurve-tests, fins-tests}
+use Rattle.attached.specs.Attached.{pcurveTest}
+use Rattle.attached.specs.Facts.{Present}
+use Rattle.attached.specs.Laws.{pcurve-tests}
+use Rattle.uses.specs.Uses.{cutAt, onceEach, finTest}
+use Rattle.uses.specs.Laws.{fins-tests}
 use Rattle.cuts.specs.Cuts.{fractionOk, along, cutOf, toleranceAt, pointTest, wireTest, ownedBy, loopTest, tablesTest, capacityTest}
 use Rattle.cuts.specs.Facts.{Owned}
 use Rattle.cuts.specs.Rows.{limits, edgeRow, placeRow, roomRow}

@@ -6,7 +6,7 @@ ghost use Prim.Native.Nat.{_<_};
 ghost use lib.ListN.{length};
 ghost use Rattle.model.specs.Layout.{word};
 ghost use Rattle.model.specs.Fit.{Lists};
-ghost use Rattle.uses.specs.Facts.{Present};
+ghost use Rattle.attached.specs.Facts.{Present};
 ghost use Rattle.pieces.specs.Pieces.{finWord, finWords, finsPut};
 ghost use Rattle.pieces.specs.Facts.{Slots};
 

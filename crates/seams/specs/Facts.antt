@@ -8,7 +8,7 @@ use Rattle.model.specs.Entries.{listOf}
 use Rattle.model.specs.Fit.{Lists}
 use Rattle.beside.specs.Facts.{Olds}
 use Rattle.halves.specs.Facts.{Roomy}
-use Rattle.uses.specs.Facts.{Present}
+use Rattle.attached.specs.Facts.{Present}
 use Rattle.pieces.specs.Pieces.{finWords}
 use Rattle.pieces.specs.Facts.{Slots}
 

@@ -26,8 +26,8 @@ use Rattle.model.specs.Laws.{fit-of, lists-of, words-length, list-inside, list-
 use Rattle.beside.specs.Beside.{entriesFor}
 use Rattle.beside.specs.Facts.{Longer}
 use Rattle.segments.specs.Segment.{segmentAt}
+use Rattle.attached.specs.Laws.{counts-listed}
 use Rattle.uses.specs.Uses.{cutAt, onceEach, finTest}
-use Rattle.uses.specs.Laws.{counts-listed}
 use Rattle.cuts.specs.Cuts.{pointTest, wireTest, ownedBy, loopTest, tablesTest, capacityTest}
 use Rattle.cuts.specs.Facts.{Owned}
 use Rattle.cuts.specs.Rows.{limits, splitNumber, edgeRow, placeRow, roomRow}

@@ -1,4 +1,5 @@
 // Why an edge is not split: the thirteen tests of euler.rs's `split_line_edge`, in 01's order, before anything is written.
+use attached::pcurves_refusal;
 use bounds::bounds_refusal;
 use cuts::cut_of;
 use cuts::edge_tolerance;
@@ -10,7 +11,6 @@ use segments::refusals::then;
 use segments::refusals::unless;
 use straight::segment_at;
 use uses::fins::fins_refusal;
-use uses::fins::pcurves_refusal;
 use vacant::tables::capacity_fits;
 use vacant::wires::shells_ok;
 ghost use mathlib.Core.Path.{_≡_};

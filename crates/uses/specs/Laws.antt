@@ -1,6 +1,5 @@
--- The tests of an edge's fins: turn by turn, and as those of `meaning`. Assumes nothing.
+-- Test 11 of an edge's fins: fin by fin, and as that of `meaning`. Assumes nothing.
 use Prim.Native.Nat.{ℕ, zero, suc, _+_, _≤_, _<_}
-use native.Mathlib.Nat.{le-trans}
 use native.Mathlib.Numerals.{add-one}
 use native.Mathlib.Omega.{arith}
 use mathlib.Core.Path.{_≡_, refl, sym, ap, _∙_}
@@ -15,51 +14,21 @@ use borrow.Author.Tests.{ltb-true, eq-eqb, ne-eqb}
 use Rattle.geometry.specs.Refuse.{_unless_, _then_}
 use Rattle.meaning.specs.Lists.{member, count, the, isSome}
 use Rattle.meaning.specs.Model.{Model, surface, edge}
-use Rattle.meaning.specs.Refuse.{_if_, firstOf}
+use Rattle.meaning.specs.Refuse.{_if_}
 use Rattle.store.specs.Queries.{planeRefusal, thePlane}
-use Rattle.meaning.specs.Split.{lo, hi, parameter, splitPoint, onPlane, test3, test11, test11-fin, test11-fins}
-use Rattle.lists.specs.Tests.{then-zero, then-assoc, unless-zero, firstOf-snoc}
-use Rattle.lists.specs.Lists.{count-append, count-snoc, member-cons, member-snoc}
-use Rattle.model.specs.Layout.{wordStrides, word, wordsOf}
+use Rattle.meaning.specs.Split.{lo, hi, parameter, splitPoint, onPlane, test11, test11-fin, test11-fins}
+use Rattle.lists.specs.Tests.{then-zero, then-assoc, unless-zero}
+use Rattle.lists.specs.Lists.{count-append, member-cons, member-snoc}
+use Rattle.model.specs.Layout.{word, wordsOf}
 use Rattle.model.specs.Decode.{decode}
 use Rattle.model.specs.Entries.{listOf}
-use Rattle.model.specs.Fit.{Lists}
-use Rattle.model.specs.Laws.{before-tables}
 use Rattle.segments.specs.Laws.{refuses}
 use Rattle.slices.specs.declared.Cut.{Cut}
 use Rattle.slices.specs.Slices.{onPlanes, planeTest, faceTest}
-use Rattle.uses.specs.Uses.{cutAt, onceEach, pcurveTest, useTest, finTest}
+use Rattle.attached.specs.Attached.{useTest}
+use Rattle.uses.specs.Uses.{cutAt, onceEach, finTest}
 
--- ---- tests
-
--- the used counts are there
-pub counts-listed : (room w : List ℕ) → Lists room w → 10 ≤ length w
-counts-listed room w f = le-trans (before-tables 10 wordStrides room 10) (f .words)
-
-pub unless-is : (n : ℕ) (b : Bool) → n unless b ≡ n if not b
-unless-is n true = refl
-unless-is n false = refl
-
-pub unless-not : (n : ℕ) (b : Bool) → n unless not b ≡ n if b
-unless-not n true = refl
-unless-not n false = refl
-
-pub one-le : (b : Bool) → cond b 1 0 ≤ 1
-one-le true = omega arith
-one-le false = omega arith
-
--- ---- one entry more
-
-pub firstOf-turn : (f : ℕ → ℕ) (l : List ℕ) (k n p : ℕ) → k < length l → n ≡ firstOf f (take k l) → p ≡ f (getD l k 0)
-    → (n then p) ≡ firstOf f (take (k + 1) l)
-firstOf-turn f l k n p h e g = rw (add-one, take-suc l k 0, firstOf-snoc, e, g)
-
-pub member-turn : (x : ℕ) (l : List ℕ) (j : ℕ) (b : Bool) → j < length l → b ≡ member x (take j l) → (b || eqb x (getD l j 0)) ≡ member x (take (j + 1) l)
-member-turn x l j b h e = rw (add-one, take-suc l j 0, member-snoc, e)
-
-pub count-turn : (i : ℕ) (l : List ℕ) (j n p : ℕ) → j < length l → n ≡ count i (take j l) → p ≡ cond (eqb i (getD l j 0)) 1 0
-    → n + p ≡ count i (take (j + 1) l)
-count-turn i l j n p h e g = rw (add-one, take-suc l j 0, count-snoc, e, g)
+-- ---- parts of a list
 
 -- a part counts no more than the whole
 pub count-part : (i j : ℕ) (l : List ℕ) → count i (take j l) ≤ count i l
@@ -132,7 +101,7 @@ module _ (room w : List ℕ) (x : List Float) (e : ℕ) (cut : Cut) (l : List �
   unfolding onceEach
   no-fin-left k so-far h = rw (so-far, drop-end k l h)
 
--- ---- the tests are those of `meaning`
+-- ---- test 11 is that of `meaning`
 
 or-swap : (a b : Bool) → (a || b) ≡ (b || a)
 or-swap true true = refl
@@ -140,49 +109,44 @@ or-swap true false = refl
 or-swap false true = refl
 or-swap false false = refl
 
-module _ (room w : List ℕ) (x : List Float) (e : ℕ) where
-  pub pcurve-tests : firstOf (pcurveTest room w) (edge (decode room w x) e .fins) ≡ test3 (decode room w x) e
-  unfolding pcurveTest decode
-  pcurve-tests = refl
+module _ (room w : List ℕ) (x : List Float) (e : ℕ) (t : Float) where
+  abbrev m : Model
+  m = decode room w x
 
-  module _ (t : Float) where
-    abbrev m : Model
-    m = decode room w x
+  -- an optional surface, as its tag's test and its id
+  surface-test : (b : Bool) (i : ℕ)
+      → (1 unless isSome (cond b none (some i))
+      then planeRefusal (surface m (the (cond b none (some i))))
+      then onPlane m e (thePlane (surface m (the (cond b none (some i))))) (lo m e)
+      then onPlane m e (thePlane (surface m (the (cond b none (some i))))) (hi m e)
+      then onPlane m e (thePlane (surface m (the (cond b none (some i))))) (parameter m e t))
+      ≡ (1 unless not b then planeTest (surface m i) (cutAt m e t))
+  unfolding planeTest onPlanes onPlane cutAt splitPoint
+  surface-test true i = refl
+  surface-test false i = refl
 
-    -- an optional surface, as its tag's test and its id
-    surface-test : (b : Bool) (i : ℕ)
-        → (1 unless isSome (cond b none (some i))
-        then planeRefusal (surface m (the (cond b none (some i))))
-        then onPlane m e (thePlane (surface m (the (cond b none (some i))))) (lo m e)
-        then onPlane m e (thePlane (surface m (the (cond b none (some i))))) (hi m e)
-        then onPlane m e (thePlane (surface m (the (cond b none (some i))))) (parameter m e t))
-        ≡ (1 unless not b then planeTest (surface m i) (cutAt m e t))
-    unfolding planeTest onPlanes onPlane cutAt splitPoint
-    surface-test true i = refl
-    surface-test false i = refl
+  fin-test : (i : ℕ) → test11-fin m e t i ≡ finTest room w x e (cutAt m e t) i
+  unfolding test11-fin finTest faceTest listOf decode
+  fin-test i =
+      let l = word (wordsOf room w 5 i) 0 in
+      let f = word (wordsOf room w 4 l) 0 in
+      ap
+      (λ (n : ℕ).
+      1 unless eqb (word (wordsOf room w 5 i) 1) e
+      then 2 unless ltb l (word w 4)
+      then 1 unless eqb (count i (listOf room w 6 l)) 1
+      then 2 unless ltb f (word w 3)
+      then n)
+      (surface-test (eqb (word (wordsOf room w 3 f) 4) 0) (word (wordsOf room w 3 f) 5))
 
-    fin-test : (i : ℕ) → test11-fin m e t i ≡ finTest room w x e (cutAt m e t) i
-    unfolding test11-fin finTest faceTest listOf decode
-    fin-test i =
-        let l = word (wordsOf room w 5 i) 0 in
-        let f = word (wordsOf room w 4 l) 0 in
-        ap
-        (λ (n : ℕ).
-        1 unless eqb (word (wordsOf room w 5 i) 1) e
-        then 2 unless ltb l (word w 4)
-        then 1 unless eqb (count i (listOf room w 6 l)) 1
-        then 2 unless ltb f (word w 3)
-        then n)
-        (surface-test (eqb (word (wordsOf room w 3 f) 4) 0) (word (wordsOf room w 3 f) 5))
+  fin-tests : (l s r : List ℕ) → ((y : ℕ) → member y s ≡ member y r) → test11-fins m e t s l ≡ onceEach (finTest room w x e (cutAt m e t)) r l
+  unfolding test11-fins onceEach
+  fin-tests [] s r h = refl
+  fin-tests (i ∷ l) s r h =
+      ap (λ (b : Bool). 1 if b then test11-fin m e t i then test11-fins m e t (i ∷ s) l) (h i)
+      ∙ ap (λ (n : ℕ). 1 if member i r then n then test11-fins m e t (i ∷ s) l) (fin-test i)
+      ∙ ap (λ (n : ℕ). 1 if member i r then finTest room w x e (cutAt m e t) i then n)
+      (fin-tests l (i ∷ s) (r ++ (i ∷ [])) (λ y. member-cons y i s ∙ or-swap (eqb y i) (member y s) ∙ ap (λ (b : Bool). b || eqb y i) (h y) ∙ sym (member-snoc y r i)))
 
-    fin-tests : (l s r : List ℕ) → ((y : ℕ) → member y s ≡ member y r) → test11-fins m e t s l ≡ onceEach (finTest room w x e (cutAt m e t)) r l
-    unfolding test11-fins onceEach
-    fin-tests [] s r h = refl
-    fin-tests (i ∷ l) s r h =
-        ap (λ (b : Bool). 1 if b then test11-fin m e t i then test11-fins m e t (i ∷ s) l) (h i)
-        ∙ ap (λ (n : ℕ). 1 if member i r then n then test11-fins m e t (i ∷ s) l) (fin-test i)
-        ∙ ap (λ (n : ℕ). 1 if member i r then finTest room w x e (cutAt m e t) i then n)
-        (fin-tests l (i ∷ s) (r ++ (i ∷ [])) (λ y. member-cons y i s ∙ or-swap (eqb y i) (member y s) ∙ ap (λ (b : Bool). b || eqb y i) (h y) ∙ sym (member-snoc y r i)))
-
-    pub fins-tests : onceEach (finTest room w x e (cutAt m e t)) [] (edge m e .fins) ≡ test11 m e t
-    fins-tests = sym (fin-tests (edge m e .fins) [] [] (λ y. refl))
+  pub fins-tests : onceEach (finTest room w x e (cutAt m e t)) [] (edge m e .fins) ≡ test11 m e t
+  fins-tests = sym (fin-tests (edge m e .fins) [] [] (λ y. refl))

@@ -1,6 +1,5 @@
--- The tests of an edge's fins (01, "Splitting: order of tests", 3 and 11), each of the words and floats that it reads. `Laws.antt` says that they are those of `meaning`. Definitions only.
+-- Test 11 of an edge's fins (01, "Splitting: order of tests"), of the words and floats that it reads. `Laws.antt` says that it is that of `meaning`. Definitions only.
 use Prim.Native.Nat.{ℕ}
-use mathlib.Core.Bool.{Bool, _&&_}
 use mathlib.Core.List.{List, [], _∷_, _++_}
 use lib.Dec.{eqb, ltb}
 use lib.Ieee.{Float}
@@ -11,7 +10,6 @@ use Rattle.meaning.specs.Model.{Model, edge}
 use Rattle.meaning.specs.Refuse.{_if_}
 use Rattle.meaning.specs.Split.{carrier, lo, hi, parameter, splitPoint}
 use Rattle.model.specs.Layout.{word, wordsOf}
-use Rattle.model.specs.Decode.{flagAt}
 use Rattle.model.specs.Entries.{listOf}
 use Rattle.slices.specs.declared.Cut.{Cut}
 use Rattle.slices.specs.Slices.{faceTest}
@@ -31,24 +29,12 @@ unfoldable pub onceEach : (ℕ → ℕ) → List ℕ → List ℕ → ℕ
 onceEach f seen [] = 0
 onceEach f seen (i ∷ l) = let rest = onceEach f (seen ++ (i ∷ [])) l in 1 if member i seen then f i then rest
 
-module _ (room w : List ℕ) where
-  -- "missing 2, pcurve mark 7"
-  unfoldable pub pcurveTest : ℕ → ℕ
-  pcurveTest i = 2 unless ltb i (word w 5) then 7 if flagAt (wordsOf room w 5 i) 3
-
-  -- "repeated 1; points to another edge 1; loop missing 2"
-  unfoldable pub useTest : ℕ → List ℕ → ℕ → ℕ
-  useTest e seen i =
-      1 if member i seen
-      then 1 unless eqb (word (wordsOf room w 5 i) 1) e
-      then 2 unless ltb (word (wordsOf room w 5 i) 0) (word w 4)
-
-  module _ (x : List Float) where
-    -- one fin of test 11
-    unfoldable pub finTest : ℕ → Cut → ℕ → ℕ
-    finTest e c i =
-        let l = word (wordsOf room w 5 i) 0 in
-        1 unless eqb (word (wordsOf room w 5 i) 1) e
-        then 2 unless ltb l (word w 4)
-        then 1 unless eqb (count i (listOf room w 6 l)) 1
-        then faceTest room w x c (word (wordsOf room w 4 l) 0)
+module _ (room w : List ℕ) (x : List Float) where
+  -- one fin of test 11
+  unfoldable pub finTest : ℕ → Cut → ℕ → ℕ
+  finTest e c i =
+      let l = word (wordsOf room w 5 i) 0 in
+      1 unless eqb (word (wordsOf room w 5 i) 1) e
+      then 2 unless ltb l (word w 4)
+      then 1 unless eqb (count i (listOf room w 6 l)) 1
+      then faceTest room w x c (word (wordsOf room w 4 l) 0)

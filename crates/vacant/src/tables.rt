@@ -1,8 +1,8 @@
 // Test 13: the slots of the tables and lists concerned, the new fins in one loop counted together.
+use attached::one_if;
+use attached::owner_of;
 use crate::wires::shells_ok;
 use listing::list;
-use uses::fins::one_if;
-use uses::fins::owner_of;
 ghost use mathlib.Core.Path.{_≡_};
 ghost use Prim.Native.Nat.{_<_};
 ghost use lib.ListN.{length};

@@ -1,6 +1,6 @@
 // The wire edges of the shells: test 12, and their part of test 13.
+use attached::one_if;
 use listing::list;
-use uses::fins::one_if;
 ghost use mathlib.Core.Path.{_≡_};
 ghost use Prim.Native.Nat.{_<_};
 ghost use Rattle.meaning.specs.Lists.{count, allBelow};

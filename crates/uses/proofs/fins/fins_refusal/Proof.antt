@@ -10,7 +10,8 @@ use lib.Seq.{take-all}
 use Rattle.meaning.specs.Lists.{count}
 use Rattle.lists.specs.Lists.{count-none}
 use Rattle.model.specs.Laws.{lists-of}
-use Rattle.uses.specs.Laws.{one-le, count-turn, count-part, from, used, times, held, at-use, owner-there, at-count, at-face, next-fin, no-fin-left}
+use Rattle.attached.specs.Laws.{one-le, count-turn}
+use Rattle.uses.specs.Laws.{count-part, from, used, times, held, at-use, owner-there, at-count, at-face, next-fin, no-fin-left}
 use Rattle.uses.proofs.fins.fins_refusal.Statement.{statement}
 use Rattle.uses.proofs.fins.fins_refusal.Tie as tie
 

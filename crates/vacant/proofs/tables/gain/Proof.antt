@@ -8,7 +8,7 @@ use lib.Dec.{eqb}
 use lib.ListN.{length, take}
 use lib.Seq.{take-all}
 use Rattle.meaning.specs.Lists.{countIf}
-use Rattle.uses.specs.Laws.{one-le}
+use Rattle.attached.specs.Laws.{one-le}
 use Rattle.cuts.specs.Cuts.{ownedBy}
 use Rattle.cuts.specs.Laws.{countIf-turn}
 use Rattle.vacant.proofs.tables.gain.Statement.{statement}

@@ -2,7 +2,7 @@
 use borrow.Author.Needs.{needs}
 use native.Mathlib.Omega.{arith}
 use mathlib.Core.Path.{refl}
-use Rattle.uses.specs.Laws.{counts-listed}
+use Rattle.attached.specs.Laws.{counts-listed}
 use Rattle.cuts.specs.Cuts.{tablesTest}
 use Rattle.vacant.proofs.tables.tables_fit.Statement.{statement}
 use Rattle.vacant.proofs.tables.tables_fit.Tie as tie

@@ -8,7 +8,7 @@ use lib.ListN.{length, getD, take}
 use lib.Seq.{take-all}
 use Rattle.meaning.specs.Lists.{count}
 use Rattle.lists.specs.Lists.{count-none}
-use Rattle.uses.specs.Laws.{one-le, count-turn}
+use Rattle.attached.specs.Laws.{one-le, count-turn}
 use Rattle.vacant.proofs.wires.count_of.Statement.{statement}
 use Rattle.vacant.proofs.wires.count_of.Tie as tie
 

@@ -5,7 +5,7 @@ use mathlib.Core.Path.{_≡_, ap, _∙_}
 use Rattle.meaning.specs.Lists.{allBelow}
 use Rattle.lists.specs.Tests.{allBelow-none, allBelow-turn}
 use Rattle.model.specs.Layout.{word}
-use Rattle.uses.specs.Laws.{counts-listed}
+use Rattle.attached.specs.Laws.{counts-listed}
 use Rattle.cuts.specs.Cuts.{wireTest}
 use Rattle.vacant.proofs.wires.shells_ok.Statement.{statement}
 use Rattle.vacant.proofs.wires.shells_ok.Tie as tie

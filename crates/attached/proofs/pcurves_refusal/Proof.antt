@@ -1,4 +1,4 @@
--- `uses::fins::pcurves_refusal` meets its contract. Assumes nothing.
+-- `attached::pcurves_refusal` meets its contract. Assumes nothing.
 use Prim.Native.Nat.{_≤_, _-_}
 use borrow.Author.Needs.{needs}
 use native.Mathlib.Omega.{arith}
@@ -7,10 +7,10 @@ use lib.ListN.{length, take}
 use lib.Seq.{take-all}
 use Rattle.meaning.specs.Refuse.{firstOf}
 use Rattle.lists.specs.Tests.{firstOf-none}
-use Rattle.uses.specs.Uses.{pcurveTest}
-use Rattle.uses.specs.Laws.{firstOf-turn}
-use Rattle.uses.proofs.fins.pcurves_refusal.Statement.{statement}
-use Rattle.uses.proofs.fins.pcurves_refusal.Tie as tie
+use Rattle.attached.specs.Attached.{pcurveTest}
+use Rattle.attached.specs.Laws.{firstOf-turn}
+use Rattle.attached.proofs.pcurves_refusal.Statement.{statement}
+use Rattle.attached.proofs.pcurves_refusal.Tie as tie
 
 abbrev Inv-loop : tie.InvT-loop
 Inv-loop room words fins n₀ k₀ n k = (k ≤ length fins) × (n ≡ firstOf (pcurveTest room words) (take k fins))

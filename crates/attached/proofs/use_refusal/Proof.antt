@@ -1,4 +1,4 @@
--- `uses::fins::use_refusal` meets its contract. Assumes nothing.
+-- `attached::use_refusal` meets its contract. Assumes nothing.
 use native.Mathlib.Omega.{arith}
 use mathlib.Core.Path.{_≡_, sym, ap}
 use lib.Dec.{eqb, ltb}
@@ -8,11 +8,11 @@ use Rattle.geometry.specs.Refuse.{_unless_, _then_}
 use Rattle.meaning.specs.Lists.{member}
 use Rattle.model.specs.Layout.{word}
 use Rattle.entity.specs.Laws.{words-inside, words-whole}
-use Rattle.uses.specs.Uses.{useTest}
-use Rattle.uses.specs.Laws.{counts-listed, unless-not}
+use Rattle.attached.specs.Attached.{useTest}
+use Rattle.attached.specs.Laws.{counts-listed, unless-not}
 use borrow.Author.Needs.{needs}
-use Rattle.uses.proofs.fins.use_refusal.Statement.{statement}
-use Rattle.uses.proofs.fins.use_refusal.Tie as tie
+use Rattle.attached.proofs.use_refusal.Statement.{statement}
+use Rattle.attached.proofs.use_refusal.Tie as tie
 
 mul-fin : tie.Need-mul-fin
 mul-fin c = search needs

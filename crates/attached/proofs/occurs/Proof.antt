@@ -1,4 +1,4 @@
--- `uses::fins::occurs` meets its contract. Assumes nothing.
+-- `attached::occurs` meets its contract. Assumes nothing.
 use Prim.Native.Nat.{_≤_, _-_}
 use native.Mathlib.Omega.{arith}
 use mathlib.Core.Path.{_≡_, sym, ap, _∙_}
@@ -6,9 +6,9 @@ use lib.ListN.{length, take}
 use lib.Seq.{take-all}
 use Rattle.meaning.specs.Lists.{member}
 use Rattle.lists.specs.Lists.{member-none}
-use Rattle.uses.specs.Laws.{member-turn}
-use Rattle.uses.proofs.fins.occurs.Statement.{statement}
-use Rattle.uses.proofs.fins.occurs.Tie as tie
+use Rattle.attached.specs.Laws.{member-turn}
+use Rattle.attached.proofs.occurs.Statement.{statement}
+use Rattle.attached.proofs.occurs.Tie as tie
 
 abbrev Inv-loop : tie.InvT-loop
 Inv-loop s x found₀ j₀ found j = (j ≤ length s) × (found ≡ member x (take j s))

@@ -1,12 +1,12 @@
--- `uses::fins::face_of` meets its contract. Assumes nothing.
+-- `attached::face_of` meets its contract. Assumes nothing.
 use native.Mathlib.Omega.{arith}
 use borrow.Author.Needs.{needs}
 use mathlib.Core.Path.{_≡_, ap}
 use lib.ListN.{length}
 use Rattle.model.specs.Layout.{word}
 use Rattle.entity.specs.Laws.{words-inside, words-whole}
-use Rattle.uses.proofs.fins.face_of.Statement.{statement}
-use Rattle.uses.proofs.fins.face_of.Tie as tie
+use Rattle.attached.proofs.face_of.Statement.{statement}
+use Rattle.attached.proofs.face_of.Tie as tie
 
 words-of-requires : tie.Need-words-of-requires
 words-of-requires c κs =

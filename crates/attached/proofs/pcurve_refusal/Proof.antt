@@ -1,4 +1,4 @@
--- `uses::fins::pcurve_refusal` meets its contract. Assumes nothing.
+-- `attached::pcurve_refusal` meets its contract. Assumes nothing.
 use native.Mathlib.Omega.{arith}
 use mathlib.Core.Path.{_≡_, _∙_}
 use mathlib.Core.Bool.{true, false}
@@ -8,10 +8,10 @@ use lib.ListN.{length}
 use borrow.Author.Tests.{lt-ltb, le-ltb}
 use Rattle.model.specs.Layout.{word}
 use Rattle.entity.specs.Laws.{words-inside, words-whole}
-use Rattle.uses.specs.Uses.{pcurveTest}
-use Rattle.uses.specs.Laws.{counts-listed, unless-is}
-use Rattle.uses.proofs.fins.pcurve_refusal.Statement.{statement}
-use Rattle.uses.proofs.fins.pcurve_refusal.Tie as tie
+use Rattle.attached.specs.Attached.{pcurveTest}
+use Rattle.attached.specs.Laws.{counts-listed, unless-is}
+use Rattle.attached.proofs.pcurve_refusal.Statement.{statement}
+use Rattle.attached.proofs.pcurve_refusal.Tie as tie
 
 shared-slice-read-if1 : tie.Need-shared-slice-read-if1
 shared-slice-read-if1 c = let s = c .before .before in let n = counts-listed (s .args .room .now) (s .args .words .now) (s .pre) in omega arith

@@ -1,0 +1,62 @@
+-- The tests of an edge's fins by their own words, turn by turn; those of test 3 are those of `meaning`. Assumes nothing.
+use Prim.Native.Nat.{ℕ, _+_, _≤_, _<_}
+use native.Mathlib.Nat.{le-trans}
+use native.Mathlib.Numerals.{add-one}
+use native.Mathlib.Omega.{arith}
+use mathlib.Core.Path.{_≡_, refl}
+use mathlib.Core.Bool.{Bool, true, false, not, cond, _||_}
+use mathlib.Core.List.{List}
+use lib.Dec.{eqb}
+use lib.ListN.{length, getD, take}
+use lib.Seq.{take-suc}
+use lib.Ieee.{Float}
+use Rattle.geometry.specs.Refuse.{_unless_, _then_}
+use Rattle.meaning.specs.Lists.{member, count}
+use Rattle.meaning.specs.Model.{edge}
+use Rattle.meaning.specs.Refuse.{_if_, firstOf}
+use Rattle.meaning.specs.Split.{test3}
+use Rattle.lists.specs.Tests.{firstOf-snoc}
+use Rattle.lists.specs.Lists.{count-snoc, member-snoc}
+use Rattle.model.specs.Layout.{wordStrides, word}
+use Rattle.model.specs.Decode.{decode}
+use Rattle.model.specs.Fit.{Lists}
+use Rattle.model.specs.Laws.{before-tables}
+use Rattle.attached.specs.Attached.{pcurveTest}
+
+-- ---- tests
+
+-- the used counts are there
+pub counts-listed : (room w : List ℕ) → Lists room w → 10 ≤ length w
+counts-listed room w f = le-trans (before-tables 10 wordStrides room 10) (f .words)
+
+pub unless-is : (n : ℕ) (b : Bool) → n unless b ≡ n if not b
+unless-is n true = refl
+unless-is n false = refl
+
+pub unless-not : (n : ℕ) (b : Bool) → n unless not b ≡ n if b
+unless-not n true = refl
+unless-not n false = refl
+
+pub one-le : (b : Bool) → cond b 1 0 ≤ 1
+one-le true = omega arith
+one-le false = omega arith
+
+-- ---- one entry more
+
+pub firstOf-turn : (f : ℕ → ℕ) (l : List ℕ) (k n p : ℕ) → k < length l → n ≡ firstOf f (take k l) → p ≡ f (getD l k 0)
+    → (n then p) ≡ firstOf f (take (k + 1) l)
+firstOf-turn f l k n p h e g = rw (add-one, take-suc l k 0, firstOf-snoc, e, g)
+
+pub member-turn : (x : ℕ) (l : List ℕ) (j : ℕ) (b : Bool) → j < length l → b ≡ member x (take j l) → (b || eqb x (getD l j 0)) ≡ member x (take (j + 1) l)
+member-turn x l j b h e = rw (add-one, take-suc l j 0, member-snoc, e)
+
+pub count-turn : (i : ℕ) (l : List ℕ) (j n p : ℕ) → j < length l → n ≡ count i (take j l) → p ≡ cond (eqb i (getD l j 0)) 1 0
+    → n + p ≡ count i (take (j + 1) l)
+count-turn i l j n p h e g = rw (add-one, take-suc l j 0, count-snoc, e, g)
+
+-- ---- test 3 is that of `meaning`
+
+module _ (room w : List ℕ) (x : List Float) (e : ℕ) where
+  pub pcurve-tests : firstOf (pcurveTest room w) (edge (decode room w x) e .fins) ≡ test3 (decode room w x) e
+  unfolding pcurveTest decode
+  pcurve-tests = refl
