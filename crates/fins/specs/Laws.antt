@@ -19,8 +19,10 @@ use Rattle.entity.specs.declared.records.Ref.the-variants as Refs
 use Rattle.entity.specs.declared.records.Fin.{Fin}
 use Rattle.entity.specs.declared.records.Edge.{Edge}
 use Rattle.entity.specs.Seen.{seenRef, seenFin, seenEdge}
-use Rattle.rims.specs.Rims.{refOf, rimFindings}
-use Rattle.rims.specs.Laws.{ref-back, carried-on}
+use Rattle.rims.specs.Rims.{refOf}
+use Rattle.rims.specs.Laws.{ref-back}
+use Rattle.edging.specs.Edging.{rimFindings}
+use Rattle.edging.specs.Laws.{carried-on}
 use Rattle.fins.specs.Fins.{lacking, verticesThere, finEdge, finOn}
 
 -- ---- the ends of an edge

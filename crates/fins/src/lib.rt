@@ -1,4 +1,5 @@
 // What is found of a fin (`fin` and `fin_geometry` of gensolid-check's lib.rs).
+use edging::rim;
 use entity::records::Ref;
 use fetched::carriers::curve_found;
 use fetched::carriers::surface_found;
@@ -10,7 +11,6 @@ use marks::has;
 use reasons::Tally;
 use reasons::note;
 use reasons::note_if;
-use rims::rim;
 ghost use mathlib.Core.Option.{some};
 ghost use Prim.Native.Nat.{_≤_, _<_};
 ghost use Rattle.meaning.specs.Lists.{listed, joined};

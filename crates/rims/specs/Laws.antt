@@ -1,33 +1,30 @@
--- What is found of an edge is what `meaning` says. Assumes nothing.
+-- Laws of the ends of an edge. Assumes nothing.
 use Prim.Native.Nat.{ℕ}
 use native.Mathlib.Omega.{arith}
 use borrow.Author.Tests.{eq-eqb, ne-eqb}
 use mathlib.Core.Path.{_≡_, refl, sym, ap, _∙_}
 use mathlib.Core.Bool.{Bool, true, false, not, cond, _&&_, _||_}
-use mathlib.Core.List.{List, [], _++_, append-nil}
+use mathlib.Core.List.{List, [], append-nil}
 use mathlib.Core.Option.{Option, none, some}
 use lib.Dec.{eqb}
-use lib.Ieee.{Float}
-use Rattle.geometry.specs.Geometry.{nearest, effective}
+use Rattle.geometry.specs.Geometry.{nearest}
 use Rattle.store.specs.declared.Found.{Found}
 use Rattle.queried.specs.declared.CurveProjection.{CurveProjection}
 use Rattle.queried.specs.declared.Projected.{Projected}
 use Rattle.queried.specs.declared.Projected.the-variants as Projections
 use Rattle.store.specs.Queries.{theLine}
 use Rattle.queried.specs.Queries.{projectRefusal, projection, projectToCurve}
-use Rattle.meaning.specs.Lists.{run, the, isSome, listed, joined}
-use Rattle.meaning.specs.Model.{Model, has, edge, vertex, pointOf, curve, surface}
-use Rattle.meaning.specs.Faults.{Finding, skipped, onlyIf, endTests, projected, sampleTest, sampleTests, sampleAt, carried, isOther, otherRing, curveTest, pointOnSurface}
-use Rattle.lists.specs.Lists.{joined-append}
+use Rattle.meaning.specs.Lists.{isSome, listed, joined}
+use Rattle.meaning.specs.Model.{Model, has, vertex, pointOf}
+use Rattle.meaning.specs.Faults.{Finding, isOther}
 use Rattle.entity.specs.declared.records.Ref.{Ref}
 use Rattle.entity.specs.declared.records.Ref.the-variants as Refs
 use Rattle.entity.specs.declared.records.Vertex.{Vertex}
 use Rattle.entity.specs.Seen.{seenRef, seenVertex}
-use Rattle.points.specs.Points.{curveFindings, surfaceFindings, sampleFindings, samplesFindings}
 use Rattle.points.specs.Laws.{project-refused, project-given}
 use Rattle.rims.specs.declared.Param.{Param}
 use Rattle.rims.specs.declared.Param.the-variants as Params
-use Rattle.rims.specs.Rims.{refOf, endAt, endFindings, endsFindings, paramAt, paramOf, between, samplesBetween, ringed, rimFindings}
+use Rattle.rims.specs.Rims.{refOf, paramAt, ringed}
 
 -- an optional id that a record was read with
 pub ref-back : (o : Option ℕ) → refOf (seenRef o) ≡ o
@@ -43,37 +40,6 @@ no-end f r e = rw e
 pub one-end : (f : ℕ → List Finding) (r : Ref) (v : ℕ) → r ≡ Refs.Is v → joined f (listed (refOf r)) ≡ f v
 unfolding joined
 one-end f r v e = rw e (append-nil (f v))
-
--- a vertex that is missing, and one that is there
-module _ (m : Model) (curve surface : Found) (tolerance : Float) (e v : ℕ) where
-  pub end-missing : has (m .vertices) v ≡ false → endFindings m curve surface tolerance e v ≡ []
-  unfolding endFindings
-  end-missing h = rw h
-
-  pub end-there : (x : Vertex) (own : Float) → has (m .vertices) v ≡ true → x ≡ seenVertex (vertex m v) → own ≡ effective (x .tolerance) (m .precision)
-      → endFindings m curve surface tolerance e v ≡ endAt curve surface (x .point) own tolerance e v
-  unfolding endFindings seenVertex
-  end-there x own h p q = rw (h, q, p)
-
--- ---- samples, by the cases of both parameters
-
-module _ (curve surface : Found) (tolerance : Float) (n e : ℕ) (p q : Param) where
-  pub between-none : p ≡ Params.None → between curve surface tolerance n e p q ≡ []
-  unfolding between
-  between-none h = rw h
-
-  pub between-one : (t0 : Float) → p ≡ Params.At t0 → q ≡ Params.None → between curve surface tolerance n e p q ≡ []
-  unfolding between
-  between-one t0 h g = rw (h, g)
-
-  pub between-both : (t0 t1 : Float) → p ≡ Params.At t0 → q ≡ Params.At t1 → between curve surface tolerance n e p q ≡ samplesFindings curve surface tolerance e t0 t1 n
-  unfolding between
-  between-both t0 t1 h g = rw (h, g)
-
-pub samples-told : (m : Model) (curve surface : Found) (tolerance : Float) (n e : ℕ) (a b : Option ℕ) (p q : Param) → p ≡ paramOf m curve a → q ≡ paramOf m curve b
-    → samplesBetween m curve surface tolerance n e a b ≡ between curve surface tolerance n e p q
-unfolding samplesBetween
-samples-told m curve surface tolerance n e a b p q h g = rw (h, g)
 
 -- ---- the rule of rings
 
@@ -113,36 +79,3 @@ module _ (m : Model) (curve : Found) (v : ℕ) (x : Vertex) (is : x ≡ seenVert
   param-given near q h =
       let w = project-given (projectRefusal curve (pointOf m v)) _ near (sym asked ∙ q) in
       rw (h, eq-eqb (projectRefusal curve (pointOf m v)) 0 (w .number)) (ap (λ y. Params.At (y .param)) (sym (w .value)))
-
--- ---- what `meaning` says
-
-module _ (m : Model) (n e c s : ℕ) where
-  abbrev tolerance : Float
-  tolerance = effective (edge m e .tolerance) (m .precision)
-
-  choose : (p q : Bool) (t0 t1 : Float)
-      → cond (p && q) (joined (λ k. sampleTest m e c s (sampleAt t0 t1 n k)) (run 1 n)) []
-      ≡ between (curve m c) (surface m s) tolerance n e (cond p (Params.At t0) Params.None) (cond q (Params.At t1) Params.None)
-  unfolding between samplesFindings sampleTest sampleFindings pointOnSurface surfaceFindings
-  choose true true t0 t1 = refl
-  choose true false t0 t1 = refl
-  choose false true t0 t1 = refl
-  choose false false t0 t1 = refl
-
-  sampled : (a b : Option ℕ)
-      → cond (projected m c a && projected m c b)
-      (joined (λ k. sampleTest m e c s (sampleAt (nearest (theLine (curve m c)) (pointOf m (the a))) (nearest (theLine (curve m c)) (pointOf m (the b))) n k)) (run 1 n))
-      []
-      ≡ samplesBetween m (curve m c) (surface m s) tolerance n e a b
-  unfolding samplesBetween paramOf paramAt
-  sampled none none = choose false false (nearest (theLine (curve m c)) (pointOf m 0)) (nearest (theLine (curve m c)) (pointOf m 0))
-  sampled none (some v) = choose false (projected m c (some v)) (nearest (theLine (curve m c)) (pointOf m 0)) (nearest (theLine (curve m c)) (pointOf m v))
-  sampled (some u) none = choose (projected m c (some u)) false (nearest (theLine (curve m c)) (pointOf m u)) (nearest (theLine (curve m c)) (pointOf m 0))
-  sampled (some u) (some v) = choose (projected m c (some u)) (projected m c (some v)) (nearest (theLine (curve m c)) (pointOf m u)) (nearest (theLine (curve m c)) (pointOf m v))
-
-  -- an edge that has a curve, in a face that has a surface
-  pub carried-on : carried m n e (some c) (some s) ≡ rimFindings m (curve m c) (surface m s) tolerance n e (edge m e .start) (edge m e .end)
-  unfolding carried rimFindings endsFindings sampleTests ringed endTests endFindings endAt curveTest curveFindings pointOnSurface surfaceFindings
-  carried-on =
-      ap (λ l. l ++ sampleTests m n e c s ++ onlyIf (otherRing m e c s) skipped) (joined-append (endFindings m (curve m c) (surface m s) tolerance e) (listed (edge m e .start)) (listed (edge m e .end)))
-      ∙ ap (λ l. endsFindings m (curve m c) (surface m s) tolerance e (edge m e .start) (edge m e .end) ++ l ++ onlyIf (otherRing m e c s) skipped) (sampled (edge m e .start) (edge m e .end))

@@ -1,7 +1,7 @@
 // Test 13: the slots of the tables and lists concerned, the new fins in one loop counted together.
+use crate::wires::shells_ok;
 use attached::one_if;
 use attached::owner_of;
-use crate::wires::shells_ok;
 use listing::list;
 ghost use mathlib.Core.Path.{_≡_};
 ghost use Prim.Native.Nat.{_<_};

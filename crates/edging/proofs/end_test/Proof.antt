@@ -1,14 +1,14 @@
--- `rims::end_test` meets its contract: a missing vertex is passed over. Assumes nothing.
+-- `edging::end_test` meets its contract: a missing vertex is passed over. Assumes nothing.
 use native.Mathlib.Omega.{arith}
 use mathlib.Core.Path.{sym}
 use borrow.Author.Tests.{le-ltb, lt-ltb}
 use Rattle.entity.specs.Laws.{counts-there, precision-there}
 use Rattle.model.specs.Decode.{decode}
 use Rattle.reasons.specs.Laws.{enough-same, noted-none, noted-same}
-use Rattle.rims.specs.Laws.{end-missing, end-there}
+use Rattle.edging.specs.Laws.{end-missing, end-there}
 use borrow.Author.Needs.{needs}
-use Rattle.rims.proofs.end_test.Statement.{statement}
-use Rattle.rims.proofs.end_test.Tie as tie
+use Rattle.edging.proofs.end_test.Statement.{statement}
+use Rattle.edging.proofs.end_test.Tie as tie
 
 shared-slice-read-if1 : tie.Need-shared-slice-read-if1
 shared-slice-read-if1 c = omega (arith, counts-there _ _ _ (c .before .before .before .before .pre .0))

@@ -1,12 +1,12 @@
--- `rims::samples` meets its contract: by both parameters. Assumes nothing.
+-- `edging::samples` meets its contract: by both parameters. Assumes nothing.
 use mathlib.Core.Path.{sym}
 use Rattle.model.specs.Decode.{decode}
 use Rattle.reasons.specs.Laws.{enough-same, noted-same}
 use Rattle.rims.specs.Rims.{refOf}
-use Rattle.rims.specs.Laws.{samples-told}
+use Rattle.edging.specs.Laws.{samples-told}
 use borrow.Author.Needs.{needs}
-use Rattle.rims.proofs.samples.Statement.{statement}
-use Rattle.rims.proofs.samples.Tie as tie
+use Rattle.edging.proofs.samples.Statement.{statement}
+use Rattle.edging.proofs.samples.Tie as tie
 
 parameter-requires : tie.Need-parameter-requires
 parameter-requires c κs = search needs

@@ -1,10 +1,10 @@
--- `rims::samples_between` meets its contract: by the cases of both parameters. Assumes nothing.
+-- `edging::samples_between` meets its contract: by the cases of both parameters. Assumes nothing.
 use mathlib.Core.Path.{sym}
 use Rattle.reasons.specs.Laws.{enough-same, noted-none, noted-same}
-use Rattle.rims.specs.Laws.{between-none, between-one, between-both}
+use Rattle.edging.specs.Laws.{between-none, between-one, between-both}
 use borrow.Author.Needs.{needs}
-use Rattle.rims.proofs.samples_between.Statement.{statement}
-use Rattle.rims.proofs.samples_between.Tie as tie
+use Rattle.edging.proofs.samples_between.Statement.{statement}
+use Rattle.edging.proofs.samples_between.Tie as tie
 
 enum-told : tie.Need-enum-told
 enum-told c = search needs

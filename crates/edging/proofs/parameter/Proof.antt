@@ -1,10 +1,11 @@
--- `rims::parameter` meets its contract: by the end's case. Assumes nothing.
+-- `edging::parameter` meets its contract: by the end's case. Assumes nothing.
 use mathlib.Core.Path.{sym, ap, _∙_}
 use Rattle.model.specs.Decode.{decode}
-use Rattle.rims.specs.Rims.{refOf, paramOf}
+use Rattle.rims.specs.Rims.{refOf}
+use Rattle.edging.specs.Edging.{paramOf}
 use borrow.Author.Needs.{needs}
-use Rattle.rims.proofs.parameter.Statement.{statement}
-use Rattle.rims.proofs.parameter.Tie as tie
+use Rattle.edging.proofs.parameter.Statement.{statement}
+use Rattle.edging.proofs.parameter.Tie as tie
 
 enum-told : tie.Need-enum-told
 enum-told c = search needs

@@ -1,9 +1,9 @@
--- `rims::end_at` meets its contract: the curve's test, then the surface's. Assumes nothing.
-use Rattle.rims.specs.Rims.{endAt}
+-- `edging::end_at` meets its contract: the curve's test, then the surface's. Assumes nothing.
+use Rattle.edging.specs.Edging.{endAt}
 use Rattle.reasons.specs.Laws.{enough-first, enough-then, noted-then}
 use borrow.Author.Needs.{needs}
-use Rattle.rims.proofs.end_at.Statement.{statement}
-use Rattle.rims.proofs.end_at.Tie as tie
+use Rattle.edging.proofs.end_at.Statement.{statement}
+use Rattle.edging.proofs.end_at.Tie as tie
 
 curve-test-requires : tie.Need-curve-test-requires
 unfolding endAt

@@ -1,10 +1,10 @@
--- `rims::end_of` meets its contract: by the end's case. Assumes nothing.
+-- `edging::end_of` meets its contract: by the end's case. Assumes nothing.
 use mathlib.Core.Path.{sym}
 use Rattle.reasons.specs.Laws.{enough-same, noted-none, noted-same}
 use Rattle.rims.specs.Laws.{no-end, one-end}
 use borrow.Author.Needs.{needs}
-use Rattle.rims.proofs.end_of.Statement.{statement}
-use Rattle.rims.proofs.end_of.Tie as tie
+use Rattle.edging.proofs.end_of.Statement.{statement}
+use Rattle.edging.proofs.end_of.Tie as tie
 
 enum-told : tie.Need-enum-told
 enum-told c = search needs

@@ -1,9 +1,9 @@
--- `rims::ends` meets its contract: one end after the other. Assumes nothing.
-use Rattle.rims.specs.Rims.{endsFindings}
+-- `edging::ends` meets its contract: one end after the other. Assumes nothing.
+use Rattle.edging.specs.Edging.{endsFindings}
 use Rattle.reasons.specs.Laws.{enough-first, enough-then, noted-then}
 use borrow.Author.Needs.{needs}
-use Rattle.rims.proofs.ends.Statement.{statement}
-use Rattle.rims.proofs.ends.Tie as tie
+use Rattle.edging.proofs.ends.Statement.{statement}
+use Rattle.edging.proofs.ends.Tie as tie
 
 end-of-requires : tie.Need-end-of-requires
 unfolding endsFindings

@@ -1,9 +1,9 @@
--- `rims::rim` meets its contract: one step after the other. Assumes nothing.
+-- `edging::rim` meets its contract: one step after the other. Assumes nothing.
 use Rattle.reasons.specs.Laws.{enough-first, enough-then, noted-then}
-use Rattle.rims.specs.Rims.{rimFindings}
+use Rattle.edging.specs.Edging.{rimFindings}
 use borrow.Author.Needs.{needs}
-use Rattle.rims.proofs.rim.Statement.{statement}
-use Rattle.rims.proofs.rim.Tie as tie
+use Rattle.edging.proofs.rim.Statement.{statement}
+use Rattle.edging.proofs.rim.Tie as tie
 
 ends-requires : tie.Need-ends-requires
 unfolding rimFindings

@@ -1,0 +1,2 @@
+pub mod Edging
+pub mod Laws
