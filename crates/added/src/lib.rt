@@ -1,4 +1,4 @@
-// The records that a split writes beside the fins: the two halves of the edge, the new vertex, how many there are, and the floats of both.
+// What a split adds beside the fins: the new edge, and the floats of the new edge and the new vertex.
 // `pieces/specs/Pieces.antt` says what each step leaves.
 pub mod floats;
 pub mod records;

@@ -1,14 +1,14 @@
 // The words of a split, written behind all its tests: the lists, the records, their counts. `specs/Written.antt` says what they
 // become.
-use added::records::put_counts;
-use added::records::put_first;
 use added::records::put_second;
-use added::records::put_vertex;
 use listing::list;
 use pieces::fins::fin_words;
 use pieces::fins::put_fins;
 use pieces::relist::put_loops;
 use pieces::relist::put_wires;
+use shortened::put_counts;
+use shortened::put_first;
+use shortened::put_vertex;
 use writes::write::write_words;
 ghost use mathlib.Core.Path.{_≡_};
 ghost use Prim.Native.Nat.{_<_};

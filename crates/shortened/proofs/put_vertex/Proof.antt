@@ -9,8 +9,8 @@ use Prim.Native.Nat.{ℕ, _<_}
 use native.Mathlib.Nat.{le-of-lt, lt-of-lt-of-le}
 use lib.Dec.{lit<, lit≤}
 use borrow.Author.Needs.{needs}
-use Rattle.added.proofs.records.put_vertex.Statement.{statement}
-use Rattle.added.proofs.records.put_vertex.Tie as tie
+use Rattle.shortened.proofs.put_vertex.Statement.{statement}
+use Rattle.shortened.proofs.put_vertex.Tie as tie
 
 slice-read-vertex : tie.Need-slice-read-vertex
 slice-read-vertex c = lt-of-lt-of-le (lit< tt) (c .before .before .pre .0 .counts)

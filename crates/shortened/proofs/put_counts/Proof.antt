@@ -1,8 +1,8 @@
 use native.Mathlib.Omega.{arith}
 use Rattle.pieces.specs.Pieces.{countsPut}
 use borrow.Author.Needs.{needs}
-use Rattle.added.proofs.records.put_counts.Statement.{statement}
-use Rattle.added.proofs.records.put_counts.Tie as tie
+use Rattle.shortened.proofs.put_counts.Statement.{statement}
+use Rattle.shortened.proofs.put_counts.Tie as tie
 
 slice-read-t6 : tie.Need-slice-read-t6
 slice-read-t6 c = search needs

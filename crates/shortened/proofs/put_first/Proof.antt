@@ -4,8 +4,8 @@ use lib.Dec.{lit<, lit≤}
 use Rattle.pieces.specs.Laws.{edge-inside}
 use Rattle.pieces.specs.Pieces.{firstPut}
 use borrow.Author.Needs.{needs}
-use Rattle.added.proofs.records.put_first.Statement.{statement}
-use Rattle.added.proofs.records.put_first.Tie as tie
+use Rattle.shortened.proofs.put_first.Statement.{statement}
+use Rattle.shortened.proofs.put_first.Tie as tie
 
 slice-read-t6 : tie.Need-slice-read-t6
 slice-read-t6 c = lt-of-lt-of-le (lit< tt) (c .before .before .pre .0 .counts)
