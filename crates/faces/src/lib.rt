@@ -1,21 +1,20 @@
 // What is found of a face (`face` of gensolid-check's lib.rs).
-use entity::records::Ref;
 use fetched::face_at;
+use likened::checked_from;
+use likened::is_shell;
 use listing::list;
 use loops::loop_;
 use reasons::Tally;
 use reasons::note;
 use reasons::note_if;
 use rims::is_none;
-ghost use mathlib.Core.Path.{_≡_};
 ghost use Prim.Native.Nat.{_≤_, _<_};
-ghost use Rattle.meaning.specs.Lists.{is, joined};
-ghost use Rattle.meaning.specs.Faults.{loopFindings, checkedFrom, faceFindings};
+ghost use Rattle.meaning.specs.Lists.{joined};
+ghost use Rattle.meaning.specs.Faults.{loopFindings, faceFindings};
 ghost use Rattle.model.specs.Layout.{word};
 ghost use Rattle.model.specs.Decode.{decode};
 ghost use Rattle.model.specs.Fit.{Fit};
 ghost use Rattle.reasons.specs.Log.{Noted, Enough};
-ghost use Rattle.rims.specs.Rims.{refOf};
 ghost use Rattle.loops.specs.Loops.{options};
 ghost use Rattle.faces.specs.Faces.{insideFindings};
 
@@ -67,25 +66,6 @@ fn face_inside(
     let a = note_if(nums, t, bare, 9, 0, f);
     let loops = list(room, words, 5, f as usize);
     all_loops(room, words, reals, nums, a, geometry, n, f, loops)
-}
-
-fn is_shell(side: Ref, s: u32) -> bool
-    ensures { λ r. ⌜ r ≡ is (refOf side) s ⌝ }
-{
-    match side {
-        Ref::None => false,
-        Ref::Is(i) => i == s,
-    }
-}
-
-// A face is checked from its front shell, or from each shell that lists it where front is none.
-fn checked_from(front: Ref, s: u32) -> bool
-    ensures { λ r. ⌜ r ≡ checkedFrom (refOf front) s ⌝ }
-{
-    match front {
-        Ref::None => true,
-        Ref::Is(own) => own == s,
-    }
 }
 
 // The shell s lists the face f.

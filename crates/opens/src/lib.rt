@@ -3,6 +3,7 @@ use entity::records::Ref;
 use entity::records::Sense;
 use fetched::edge_at;
 use fetched::fin_at;
+use likened::refs::same_ref;
 use reasons::Tally;
 use reasons::note_if;
 ghost use mathlib.Core.Path.{_≡_};
@@ -11,13 +12,12 @@ ghost use mathlib.Core.List.{List};
 ghost use Prim.Native.Nat.{_<_};
 ghost use lib.Ieee.{Float};
 ghost use lib.ListN.{length, getD};
-ghost use Rattle.meaning.specs.Lists.{same, rotated};
+ghost use Rattle.meaning.specs.Lists.{rotated};
 ghost use Rattle.meaning.specs.Walks.{endsOf, readableFin};
 ghost use Rattle.meaning.specs.Faults.{openAt, opens};
 ghost use Rattle.model.specs.Decode.{decode};
 ghost use Rattle.model.specs.Fit.{Lists, Fit};
 ghost use Rattle.reasons.specs.Log.{Noted, Enough};
-ghost use Rattle.rims.specs.Rims.{refOf};
 ghost use Rattle.opens.specs.Opens.{directedRefs, seenEnds, openBetween};
 
 // Where a fin starts and ends.
@@ -61,22 +61,6 @@ fn fin_ends(room: &[usize; 10], words: &[u32], reals: &[f64], i: u32) -> FinEnds
     let start = edge.start;
     let end = edge.end;
     directed(sense, start, end)
-}
-
-// None against none is the same.
-fn same_ref(a: Ref, b: Ref) -> bool
-    ensures { λ r. ⌜ r ≡ same (refOf a) (refOf b) ⌝ }
-{
-    match a {
-        Ref::None => match b {
-            Ref::None => true,
-            Ref::Is(_) => false,
-        },
-        Ref::Is(i) => match b {
-            Ref::None => false,
-            Ref::Is(j) => i == j,
-        },
-    }
 }
 
 // Does the fin i not end where the next starts? An unreadable fin makes no comparison.

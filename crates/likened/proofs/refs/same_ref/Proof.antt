@@ -1,7 +1,7 @@
--- `opens::same_ref` meets its contract: by both cases. Assumes nothing.
+-- `likened::refs::same_ref` meets its contract: by both cases. Assumes nothing.
 use borrow.Author.Needs.{needs}
-use Rattle.opens.proofs.same_ref.Statement.{statement}
-use Rattle.opens.proofs.same_ref.Tie as tie
+use Rattle.likened.proofs.refs.same_ref.Statement.{statement}
+use Rattle.likened.proofs.refs.same_ref.Tie as tie
 
 enum-told : tie.Need-enum-told
 enum-told c = search needs

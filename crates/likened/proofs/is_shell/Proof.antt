@@ -1,7 +1,7 @@
--- `faces::is_shell` meets its contract: by the case. Assumes nothing.
+-- `likened::is_shell` meets its contract: by the case. Assumes nothing.
 use borrow.Author.Needs.{needs}
-use Rattle.faces.proofs.is_shell.Statement.{statement}
-use Rattle.faces.proofs.is_shell.Tie as tie
+use Rattle.likened.proofs.is_shell.Statement.{statement}
+use Rattle.likened.proofs.is_shell.Tie as tie
 
 enum-told : tie.Need-enum-told
 enum-told c = search needs

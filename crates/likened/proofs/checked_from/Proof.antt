@@ -1,7 +1,7 @@
--- `faces::checked_from` meets its contract: by the case. Assumes nothing.
+-- `likened::checked_from` meets its contract: by the case. Assumes nothing.
 use borrow.Author.Needs.{needs}
-use Rattle.faces.proofs.checked_from.Statement.{statement}
-use Rattle.faces.proofs.checked_from.Tie as tie
+use Rattle.likened.proofs.checked_from.Statement.{statement}
+use Rattle.likened.proofs.checked_from.Tie as tie
 
 enum-told : tie.Need-enum-told
 enum-told c = search needs
