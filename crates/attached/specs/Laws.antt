@@ -17,7 +17,7 @@ use Rattle.meaning.specs.Refuse.{_if_, firstOf}
 use Rattle.meaning.specs.Split.{test3}
 use Rattle.lists.specs.Tests.{firstOf-snoc}
 use Rattle.lists.specs.Lists.{count-snoc, member-snoc}
-use Rattle.model.specs.Layout.{wordStrides, word}
+use Rattle.model.specs.Layout.{wordStrides}
 use Rattle.model.specs.Decode.{decode}
 use Rattle.model.specs.Fit.{Lists}
 use Rattle.model.specs.Laws.{before-tables}
