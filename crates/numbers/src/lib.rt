@@ -1,5 +1,5 @@
 // Interval arithmetic with outward rounding (interval.rs): each bound is worked out in floats, rounded to nearest,
-// and then moved one float outward, so that it encloses the exact result (`specs/Enclose.antt`).
+// and then moved one float outward, so that it encloses the exact result (`specs/Enclose.antt` of `enclosure`).
 ghost use mathlib.Core.Path.{_≡_};
 ghost use Rattle.numbers.specs.Ops.{checkedI, outwardI, pointI, addI, subI, mulI, negI, containsI, sqrI, signOf, signI};
 use extremes::greatest;
