@@ -4,19 +4,18 @@ use native.Mathlib.Nat.{le-trans}
 use native.Mathlib.Numerals.{add-one}
 use native.Mathlib.Omega.{arith}
 use mathlib.Core.Path.{_≡_, refl}
-use mathlib.Core.Bool.{Bool, true, false, not, cond, _||_}
+use mathlib.Core.Bool.{Bool, true, false, not, cond}
 use mathlib.Core.List.{List}
 use lib.Dec.{eqb}
 use lib.ListN.{length, getD, take}
 use lib.Seq.{take-suc}
 use lib.Ieee.{Float}
-use Rattle.geometry.specs.Refuse.{_unless_, _then_}
-use Rattle.meaning.specs.Lists.{member, count}
+use Rattle.geometry.specs.Refuse.{_unless_}
+use Rattle.meaning.specs.Lists.{count}
 use Rattle.meaning.specs.Model.{edge}
 use Rattle.meaning.specs.Refuse.{_if_, firstOf}
 use Rattle.meaning.specs.Split.{test3}
-use Rattle.lists.specs.Tests.{firstOf-snoc}
-use Rattle.lists.specs.Lists.{count-snoc, member-snoc}
+use Rattle.lists.specs.Lists.{count-snoc}
 use Rattle.model.specs.Layout.{wordStrides}
 use Rattle.model.specs.Decode.{decode}
 use Rattle.model.specs.Fit.{Lists}
@@ -42,13 +41,6 @@ one-le true = omega arith
 one-le false = omega arith
 
 -- ---- one entry more
-
-pub firstOf-turn : (f : ℕ → ℕ) (l : List ℕ) (k n p : ℕ) → k < length l → n ≡ firstOf f (take k l) → p ≡ f (getD l k 0)
-    → (n then p) ≡ firstOf f (take (k + 1) l)
-firstOf-turn f l k n p h e g = rw (add-one, take-suc l k 0, firstOf-snoc, e, g)
-
-pub member-turn : (x : ℕ) (l : List ℕ) (j : ℕ) (b : Bool) → j < length l → b ≡ member x (take j l) → (b || eqb x (getD l j 0)) ≡ member x (take (j + 1) l)
-member-turn x l j b h e = rw (add-one, take-suc l j 0, member-snoc, e)
 
 pub count-turn : (i : ℕ) (l : List ℕ) (j n p : ℕ) → j < length l → n ≡ count i (take j l) → p ≡ cond (eqb i (getD l j 0)) 1 0
     → n + p ≡ count i (take (j + 1) l)

@@ -4,7 +4,7 @@ use native.Mathlib.Nat.{le-trans}
 use native.Mathlib.Numerals.{add-one}
 use native.Mathlib.Omega.{arith}
 use mathlib.Core.Path.{_≡_, refl, sym, ap, _∙_}
-use mathlib.Core.Bool.{Bool, true, false, cond, _&&_}
+use mathlib.Core.Bool.{Bool, true, false, cond}
 use mathlib.Core.List.{List, [], _∷_, _++_}
 use lib.Dec.{eqb, ltb}
 use lib.ListN.{length, getD, take}
@@ -14,13 +14,13 @@ use borrow.Author.Tests.{ltb-true}
 use Rattle.vectors.specs.Space.{finitePoint}
 use Rattle.signs.specs.Signs.{apartS}
 use Rattle.geometry.specs.Refuse.{_unless_, _then_}
-use Rattle.meaning.specs.Lists.{member, count, countIf, all, allBelow}
+use Rattle.meaning.specs.Lists.{member, count, countIf, allBelow}
 use Rattle.meaning.specs.Floats as Floats
 use Rattle.meaning.specs.Model.{Model, Limits, edge}
 use Rattle.meaning.specs.Refuse.{_if_, firstRefusal, firstOf}
 use Rattle.meaning.specs.Split.{isPositive, startPoint, endPoint, lo, hi, parameter, splitPoint, test1, test2, test3, test4, test5, test6, test7, test8, test9, test10, test11, test12, test13, boundsRefusal, splitRefusal}
 use Rattle.lists.specs.Tests.{then-zero, then-none, then-assoc, unless-zero}
-use Rattle.lists.specs.Lists.{countIf-snoc, all-snoc}
+use Rattle.lists.specs.Lists.{countIf-snoc}
 use Rattle.model.specs.Layout.{realStrides, word, real, wordsOf}
 use Rattle.model.specs.Decode.{decode}
 use Rattle.model.specs.Entries.{listOf}
@@ -47,10 +47,6 @@ precision-sized room w x s = le-trans (before-tables 1 realStrides room 10) (s .
 pub countIf-turn : (p : ℕ → Bool) (l : List ℕ) (j n q : ℕ) → j < length l → n ≡ countIf p (take j l) → q ≡ cond (p (getD l j 0)) 1 0
     → n + q ≡ countIf p (take (j + 1) l)
 countIf-turn p l j n q h e g = rw (add-one, take-suc l j 0, countIf-snoc, e, g)
-
-pub all-turn : (p : ℕ → Bool) (l : List ℕ) (j : ℕ) (ok b : Bool) → j < length l → ok ≡ all p (take j l) → b ≡ p (getD l j 0)
-    → (ok && b) ≡ all p (take (j + 1) l)
-all-turn p l j ok b h e g = rw (add-one, take-suc l j 0, all-snoc, e, g)
 
 pub countIf-le : (p : ℕ → Bool) (l : List ℕ) → countIf p l ≤ length l
 unfolding countIf

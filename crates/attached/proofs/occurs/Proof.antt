@@ -1,12 +1,12 @@
 -- `attached::occurs` meets its contract. Assumes nothing.
 use Prim.Native.Nat.{_≤_, _-_}
 use native.Mathlib.Omega.{arith}
-use mathlib.Core.Path.{_≡_, sym, ap, _∙_}
+use mathlib.Core.Path.{_≡_, refl, sym, ap, _∙_}
 use lib.ListN.{length, take}
 use lib.Seq.{take-all}
 use Rattle.meaning.specs.Lists.{member}
 use Rattle.lists.specs.Lists.{member-none}
-use Rattle.attached.specs.Laws.{member-turn}
+use Rattle.marks.specs.Laws.{member-turn}
 use Rattle.attached.proofs.occurs.Statement.{statement}
 use Rattle.attached.proofs.occurs.Tie as tie
 
@@ -32,7 +32,7 @@ loop-less : tie.Need-loop-less Inv-loop μ-loop
 loop-less c = omega arith
 
 loop-again : tie.Need-loop-again Inv-loop μ-loop
-loop-again c = (omega arith, member-turn _ (c .before .before .before .args .s .now) (c .before .before .loop .j) _ (omega arith) (c .before .before .loop .inv .1))
+loop-again c = (omega arith, member-turn _ (c .before .before .before .args .s .now) (c .before .before .loop .j) _ _ (omega arith) (c .before .before .loop .inv .1) refl)
 
 returns : tie.Need-returns Inv-loop μ-loop
 returns c = c .before .loop .inv .1 ∙ ap (member _) (take-all (c .before .loop .j) (c .before .before .args .s .now) (omega arith))

@@ -8,7 +8,7 @@ use lib.Seq.{take-all}
 use Rattle.meaning.specs.Refuse.{firstOf}
 use Rattle.lists.specs.Tests.{firstOf-none}
 use Rattle.attached.specs.Attached.{pcurveTest}
-use Rattle.attached.specs.Laws.{firstOf-turn}
+use Rattle.marks.specs.Laws.{first-turn}
 use Rattle.attached.proofs.pcurves_refusal.Statement.{statement}
 use Rattle.attached.proofs.pcurves_refusal.Tie as tie
 
@@ -43,7 +43,7 @@ loop-less : tie.Need-loop-less Inv-loop μ-loop
 loop-less c = omega arith
 
 loop-again : tie.Need-loop-again Inv-loop μ-loop
-loop-again c = (omega arith, c .then .ensures ∙ firstOf-turn _ (c .before .before .before .before .before .before .before .args .fins .now) (c .before .before .before .before .loop .k) _ _ (omega arith) (c .before .before .before .before .loop .inv .1) (c .before .pcurve-refusal .ensures))
+loop-again c = (omega arith, c .then .ensures ∙ first-turn _ (c .before .before .before .before .before .before .before .args .fins .now) (c .before .before .before .before .loop .k) _ _ (omega arith) (c .before .before .before .before .loop .inv .1) (c .before .pcurve-refusal .ensures))
 
 returns : tie.Need-returns Inv-loop μ-loop
 returns c = c .before .loop .inv .1 ∙ ap (firstOf _) (take-all (c .before .loop .k) (c .before .before .before .before .args .fins .now) (omega arith))

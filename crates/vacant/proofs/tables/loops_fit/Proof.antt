@@ -6,7 +6,7 @@ use lib.ListN.{length, take}
 use lib.Seq.{take-all}
 use Rattle.meaning.specs.Lists.{all}
 use Rattle.cuts.specs.Cuts.{loopTest}
-use Rattle.cuts.specs.Laws.{all-turn}
+use Rattle.marks.specs.Laws.{all-turn}
 use Rattle.vacant.proofs.tables.loops_fit.Statement.{statement}
 use Rattle.vacant.proofs.tables.loops_fit.Tie as tie
 
