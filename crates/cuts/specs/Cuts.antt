@@ -13,7 +13,7 @@ use Rattle.geometry.specs.Refuse.{_unless_, _then_}
 use Rattle.geometry.specs.Geometry.{linePoint, effective}
 use Rattle.signs.specs.Signs.{apartS}
 use Rattle.meaning.specs.Lists.{count, countIf, all, allBelow}
-use Rattle.meaning.specs.Floats.{real}
+use Rattle.meaning.specs.Floats.{floatOf}
 use Rattle.meaning.specs.Model.{Model, edge}
 use Rattle.meaning.specs.Split.{isPositive}
 use Rattle.model.specs.Layout.{word, wordsOf}
@@ -24,7 +24,7 @@ use Rattle.slices.specs.declared.Cut.{Cut}
 
 -- 1. "Fraction not finite, ≤ 0 or ≥ 1"
 unfoldable pub fractionOk : Float → Bool
-fractionOk t = finite t && lt zeroF t && lt t (real 1)
+fractionOk t = finite t && lt zeroF t && lt t (floatOf 1)
 
 -- "The parameter is lo + (hi - lo)·fraction"
 unfoldable pub along : Segment → Float → Float

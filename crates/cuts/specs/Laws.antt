@@ -36,7 +36,7 @@ use Rattle.uses.specs.Uses.{cutAt, onceEach, finTest}
 use Rattle.uses.specs.Laws.{fins-tests}
 use Rattle.cuts.specs.Cuts.{fractionOk, along, cutOf, toleranceAt, pointTest, wireTest, ownedBy, loopTest, tablesTest, capacityTest}
 use Rattle.cuts.specs.Facts.{Owned}
-use Rattle.cuts.specs.Rows.{limits, edgeRow, placeRow, roomRow}
+use Rattle.cuts.specs.SplitNumber.{limits, edgeRow, placeRow, roomRow}
 
 -- the precision is there
 pub precision-sized : (room w : List ℕ) (x : List Float) → Sized room w x → 1 ≤ length x
@@ -174,6 +174,6 @@ module _ (room w : List ℕ) (x : List Float) (e : ℕ) (t : Float) where
   room-rows = ap (λ (n : ℕ). test12 m e then n) (sym (then-none (test13 (limits room) m e)))
 
 -- the number 1, by its bits
-pub one-bits : ofBits binary64 0x3ff0_0000_0000_0000 ≡ Floats.real 1
+pub one-bits : ofBits binary64 0x3ff0_0000_0000_0000 ≡ Floats.floatOf 1
 unfolding ofBits ofInt
 one-bits = refl

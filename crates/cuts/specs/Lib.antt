@@ -1,4 +1,4 @@
 pub mod Cuts
 pub mod Facts
-pub mod Rows
+pub mod SplitNumber
 pub mod Laws

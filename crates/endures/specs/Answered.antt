@@ -11,7 +11,7 @@ use Rattle.meaning.specs.Split.{splitRefusal}
 use Rattle.model.specs.Layout.{word}
 use Rattle.model.specs.Decode.{decode}
 use Rattle.model.specs.Readable.{readable}
-use Rattle.cuts.specs.Rows.{limits, splitNumber}
+use Rattle.cuts.specs.SplitNumber.{limits, splitNumber}
 use Rattle.replies.specs.declared.EdgeSplit.{EdgeSplit}
 use Rattle.replies.specs.declared.Split.the-variants.{Is, Refused}
 use Rattle.splits.specs.After.{splitAnswer}

@@ -10,7 +10,7 @@ use Rattle.meaning.specs.Lists.{all, count, rotated, is}
 use Rattle.meaning.specs.Model.{Model, Limits, Table, fin, loop}
 use Rattle.meaning.specs.Edits.{toleranceOk}
 use Rattle.meaning.specs.Walks.{endsOf}
-use Rattle.meaning.specs.Formed.{Readable, belowMaybe, StoredIds, Listed, closed, loopOk, WellFormed}
+use Rattle.meaning.specs.Formed.{Readable, belowMaybe, StoredIds, Listed, closed, loopCloses, WellFormed}
 use Rattle.lists.specs.Tests.{and-both}
 use Rattle.lists.specs.Lists.{all-append, all-one}
 use Rattle.frame.specs.Change.{SameTable, SameModel}
@@ -146,12 +146,12 @@ module _ (x : Limits) (m n : Model) (s : SameModel m n) where
     all-rotated p [] a = refl
     all-rotated p (i ∷ l) a = let c = and-both (p i) (all p l) a in all-append p l (i ∷ []) (c .1) (all-one p i (c .0))
 
-    closes-same : (l : ℕ) → l < m .loops .used → loopOk m (loop m l .fins) ≡ true
-    unfolding loopOk
+    closes-same : (l : ℕ) → l < m .loops .used → loopCloses m (loop m l .fins) ≡ true
+    unfolding loopCloses
     closes-same l h =
         let there = ids-same (w .ids) .loop-fins l h in
         rw (closed-same (loop m l .fins) (rotated (loop m l .fins)) there (all-rotated _ (loop m l .fins) there))
-        (each (s .loops) (λ a. loopOk n (a .fins) ≡ true) (w .closes) l h)
+        (each (s .loops) (λ a. loopCloses n (a .fins) ≡ true) (w .closes) l h)
 
     pub same-formed : WellFormed x m
     same-formed =

@@ -12,7 +12,7 @@ use Rattle.model.specs.Layout.{word}
 use Rattle.model.specs.Decode.{decode}
 use Rattle.model.specs.Readable.{readable}
 use Rattle.frame.specs.Change.{SameModel}
-use Rattle.cuts.specs.Rows.{limits}
+use Rattle.cuts.specs.SplitNumber.{limits}
 use Rattle.replies.specs.declared.EdgeSplit.{EdgeSplit}
 use Rattle.replies.specs.declared.Split.the-variants.{Is}
 use Rattle.splits.specs.After.{splitAnswer, splitWords, splitReals}
@@ -20,7 +20,7 @@ use Rattle.laws.specs.Terms.{OneMore, SameWalks, eulerNumber}
 use Rattle.laws.specs.After.{bodies-kept}
 use Rattle.laws.specs.Kept.{split-keeps}
 use Rattle.laws.specs.Statements.{stays-well-formed, empty-report-stays, accepted-split-adds-one, accepted-split-leaves-others, euler-number-stays, gives-back-any}
-use Rattle.outcome.specs.Statements.{Holds, same-model, split-model}
+use Rattle.outcome.specs.Statements.{HoldsModel, same-model, split-model}
 use Rattle.endures.specs.Sequence.{callsWords, callsReals}
 use Rattle.endures.specs.Same.{same-trans, same-formed}
 use Rattle.endures.specs.Walked.{walks-same, euler-same}
@@ -35,7 +35,7 @@ pub record Sound (room w : List ℕ) (x : List Float) : Type 0 where
 
 -- each call leaves what `meaning` says of any model n with the same records in use
 holds-after : (room w : List ℕ) (x : List Float) (n : Model) (l : List Cut) → readable room w x ≡ true → SameModel (decode room w x) n → WellFormed (limits room) n
-    → Holds room (callsWords room w x l) (callsReals room w x l) (afterAll (limits room) n l)
+    → HoldsModel room (callsWords room w x l) (callsReals room w x l) (afterAll (limits room) n l)
 unfolding callsWords callsReals afterAll
 holds-after room w x n [] r s f = record { readable = r; model = s }
 holds-after room w x n (c ∷ l) r s f =
@@ -54,7 +54,7 @@ module _ (room w : List ℕ) (x : List Float) (l : List Cut) (s : Sound room w x
   behind = decode room (callsWords room w x l) (callsReals room w x l)
 
   -- the memory holds the model of `laws`' statements, record by record
-  pub calls-model : Holds room (callsWords room w x l) (callsReals room w x l) (afterAll (limits room) (decode room w x) l)
+  pub calls-model : HoldsModel room (callsWords room w x l) (callsReals room w x l) (afterAll (limits room) (decode room w x) l)
   calls-model = holds-after room w x (decode room w x) l (s .readable) (same-model (decode room w x)) (s .formed)
 
   after-formed : WellFormed (limits room) (afterAll (limits room) before l)

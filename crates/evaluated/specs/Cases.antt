@@ -7,15 +7,15 @@ use mathlib.Core.Option.{none, some}
 use lib.Ieee.{Float, nan, inf, binary64, neg, toBits}
 use Rattle.vectors.specs.declared.vector.Point3.{Point3}
 use Rattle.geometry.specs.declared.tolerance.Tolerance.the-variants.{Own}
-use Rattle.meaning.specs.Floats.{_/ᶠ_, real}
+use Rattle.meaning.specs.Floats.{_/ᶠ_, floatOf}
 use Rattle.meaning.specs.Model.{positive, negative, Fin, Edge, Vertex, Model, Limits, largest}
 use Rattle.meaning.specs.Refuse.{Answer, refused, given}
 use Rattle.meaning.specs.Edits.{insertRefusal, editRefusal}
 use Rattle.meaning.specs.Walks.{Ends, bodyFaces, bodyEdges, bodyVertices, finVertices}
 use Rattle.meaning.specs.Inquire.{bodyBoundingBox, bodyVolume}
 use Rattle.meaning.specs.Split.{ParamRange, EdgeSplit, edgeParameterBounds, splitTests, splitLineEdge, modelAfter}
-use Rattle.meaning.specs.Stone.{at, way, line, plane, right, left, up, vertexAt, finOf, loopOf, shellOf, regionOf, stone}
-use Rattle.meaning.specs.Blade.{Row, _gives_, blade, withPrecision, withRegion, withShell, withLoop, withFin, withVertex, withCurve, withSurface, quarter, onAxis, bodyOf, asSolid, edgeIs, endsAre, curveIs, finsAre, faceIs, surfaceIs, loopsAre, shellIs, startAt, endAt, otherCurve, otherSurface, tolerantEdge, askew, room}
+use Rattle.meaning.specs.Stone.{at, way, line, plane, right, left, up, vertexAt, aFin, aLoop, aShell, aRegion, stone}
+use Rattle.meaning.specs.Blade.{Row, _gives_, blade, withPrecision, withRegion, withShell, withLoop, withFin, withVertex, withCurve, withSurface, quarter, onAxis, regionsAre, asSolid, edgeIs, endsAre, curveIs, finsAre, faceIs, surfaceIs, loopsAre, shellIs, startAt, endAt, otherCurve, otherSurface, tolerantEdge, askew, room}
 use Rattle.meaning.specs.Computing.{computing}
 
 -- ---- inserts and edits: the order of their refusals
@@ -57,10 +57,10 @@ walks =
     ∷ (0 of endsAre none none blade gives given (0 ∷ []) ∷ given (0 ∷ []) ∷ given [] ∷ [])
     -- body, region, shell, loop, fin missing
     ∷ (1 of blade gives refused 2 ∷ refused 2 ∷ refused 2 ∷ [])
-    ∷ (0 of bodyOf (0 ∷ 9 ∷ []) blade gives refused 2 ∷ refused 2 ∷ refused 2 ∷ [])
-    ∷ (0 of withRegion 0 (regionOf 0 false (0 ∷ 9 ∷ [])) blade gives refused 2 ∷ refused 2 ∷ refused 2 ∷ [])
+    ∷ (0 of regionsAre (0 ∷ 9 ∷ []) blade gives refused 2 ∷ refused 2 ∷ refused 2 ∷ [])
+    ∷ (0 of withRegion 0 (aRegion 0 false (0 ∷ 9 ∷ [])) blade gives refused 2 ∷ refused 2 ∷ refused 2 ∷ [])
     ∷ (0 of loopsAre (0 ∷ 9 ∷ []) blade gives given (0 ∷ []) ∷ refused 2 ∷ refused 2 ∷ [])
-    ∷ (0 of withLoop 0 (loopOf 0 (0 ∷ 9 ∷ [])) blade gives given (0 ∷ []) ∷ refused 2 ∷ refused 2 ∷ [])
+    ∷ (0 of withLoop 0 (aLoop 0 (0 ∷ 9 ∷ [])) blade gives given (0 ∷ []) ∷ refused 2 ∷ refused 2 ∷ [])
     ∷ []
 
 walks-hold : map (λ r. walked (r .input)) walks ≡ map (λ r. r .result) walks
@@ -73,7 +73,7 @@ fins =
     (0 of blade gives given (record { start = some 0; end = some 1 }))
     ∷ (1 of blade gives given (record { start = some 1; end = some 0 }))
     ∷ (2 of blade gives refused 2)
-    ∷ (0 of withFin 0 (finOf 0 9 positive) blade gives refused 2)
+    ∷ (0 of withFin 0 (aFin 0 9 positive) blade gives refused 2)
     ∷ []
 
 fins-hold : map (λ r. finVertices (r .input .model) (r .input .id)) fins ≡ map (λ r. r .result) fins
@@ -99,19 +99,19 @@ abbrev boxes : List (Row Model (Answer (List ℕ)))
 boxes =
     (blade gives given (0 ∷ 0 ∷ 0 ∷ 0x4010_0000_0000_0000 ∷ 0 ∷ 0 ∷ []))
     -- of equal zeros the first met
-    ∷ (endAt (at (real 4) (neg (real 0)) (real 0)) blade gives given (0 ∷ 0 ∷ 0 ∷ 0x4010_0000_0000_0000 ∷ 0 ∷ 0 ∷ []))
-    ∷ (startAt (at (real 0) (neg (real 0)) (real 0)) blade gives given (0 ∷ 0x8000_0000_0000_0000 ∷ 0 ∷ 0x4010_0000_0000_0000 ∷ 0x8000_0000_0000_0000 ∷ 0 ∷ []))
+    ∷ (endAt (at (floatOf 4) (neg (floatOf 0)) (floatOf 0)) blade gives given (0 ∷ 0 ∷ 0 ∷ 0x4010_0000_0000_0000 ∷ 0 ∷ 0 ∷ []))
+    ∷ (startAt (at (floatOf 0) (neg (floatOf 0)) (floatOf 0)) blade gives given (0 ∷ 0x8000_0000_0000_0000 ∷ 0 ∷ 0x4010_0000_0000_0000 ∷ 0x8000_0000_0000_0000 ∷ 0 ∷ []))
     -- face missing; no surface, missing, not a plane; loop missing; no curve, missing, not a line; edge missing
     ∷ (shellIs 0 (9 ∷ []) [] [] blade gives refused 2)
     ∷ (surfaceIs none blade gives refused 1)
     ∷ (surfaceIs (some 9) blade gives refused 2)
     ∷ (otherSurface blade gives refused 7)
-    ∷ (withSurface 0 (line (onAxis (real 0)) right) blade gives refused 7)
+    ∷ (withSurface 0 (line (onAxis (floatOf 0)) right) blade gives refused 7)
     ∷ (loopsAre (9 ∷ []) blade gives refused 2)
     ∷ (curveIs none blade gives refused 1)
     ∷ (curveIs (some 9) blade gives refused 2)
     ∷ (otherCurve blade gives refused 7)
-    ∷ (withCurve 0 (plane (onAxis (real 0)) up) blade gives refused 7)
+    ∷ (withCurve 0 (plane (onAxis (floatOf 0)) up) blade gives refused 7)
     ∷ (shellIs 0 (0 ∷ []) (9 ∷ []) [] blade gives refused 2)
     -- all faces before all edges
     ∷ (curveIs none (otherSurface blade) gives refused 7)
@@ -119,7 +119,7 @@ boxes =
     ∷ (endsAre (some 0) (some 9) blade gives refused 2)
     ∷ (endsAre none none blade gives refused 4)
     ∷ (startAt (onAxis nan) blade gives refused 4)
-    ∷ (startAt (at (real 0) (real 0) (inf true)) blade gives refused 4)
+    ∷ (startAt (at (floatOf 0) (floatOf 0) (inf true)) blade gives refused 4)
     ∷ (startAt (onAxis nan) (endsAre (some 0) (some 9) blade) gives refused 2)
     ∷ []
 
@@ -129,7 +129,7 @@ boxes-hold = refl
 
 -- the blade as a solid: the shell of its solid region is the face's front
 abbrev lump : Model
-lump = asSolid (withRegion 0 (regionOf 0 true (0 ∷ [])) blade)
+lump = asSolid (withRegion 0 (aRegion 0 true (0 ∷ [])) blade)
 
 abbrev weighed : Model → Answer (List ℕ)
 weighed m = measured (λ v. bits v ∷ []) (bodyVolume m 0)
@@ -137,9 +137,9 @@ weighed m = measured (λ v. bits v ∷ []) (bodyVolume m 0)
 abbrev volumes : List (Row Model (Answer (List ℕ)))
 volumes =
     -- a front side reverses the points: where the outer region is the solid one, -24
-    (withRegion 0 (regionOf 0 true (0 ∷ [])) (withRegion 1 (regionOf 0 false (1 ∷ [])) stone) gives given (0xc038_0000_0000_0000 ∷ []))
+    (withRegion 0 (aRegion 0 true (0 ∷ [])) (withRegion 1 (aRegion 0 false (1 ∷ [])) stone) gives given (0xc038_0000_0000_0000 ∷ []))
     -- a face that is listed twice counts twice: 32
-    ∷ (withShell 1 (shellOf 1 (0 ∷ 1 ∷ 2 ∷ 3 ∷ 4 ∷ 5 ∷ 1 ∷ [])) stone gives given (0x4040_0000_0000_0000 ∷ []))
+    ∷ (withShell 1 (aShell 1 (0 ∷ 1 ∷ 2 ∷ 3 ∷ 4 ∷ 5 ∷ 1 ∷ [])) stone gives given (0x4040_0000_0000_0000 ∷ []))
     -- a corner that is not a number is not refused
     ∷ (withVertex 0 (vertexAt (onAxis nan)) stone gives given (0x7ff8_0000_0000_0000 ∷ []))
     -- not solid, behind the walks
@@ -154,8 +154,8 @@ volumes =
     -- fewer than three fins
     ∷ (lump gives refused 4)
     -- a start none, vertex missing: of the first fin that has either
-    ∷ (endsAre none (some 9) (withLoop 0 (loopOf 0 (0 ∷ 1 ∷ 0 ∷ [])) lump) gives refused 7)
-    ∷ (endsAre none (some 9) (withLoop 0 (loopOf 0 (1 ∷ 0 ∷ 0 ∷ [])) lump) gives refused 2)
+    ∷ (endsAre none (some 9) (withLoop 0 (aLoop 0 (0 ∷ 1 ∷ 0 ∷ [])) lump) gives refused 7)
+    ∷ (endsAre none (some 9) (withLoop 0 (aLoop 0 (1 ∷ 0 ∷ 0 ∷ [])) lump) gives refused 2)
     -- no face at all
     ∷ (shellIs 0 [] [] [] lump gives refused 4)
     ∷ []
@@ -196,7 +196,7 @@ within x = record { limits = x; model = shellIs 0 (0 ∷ []) (0 ∷ []) [] blade
 
 -- a plane through a point of the axis, at a slope of 3 to 4
 abbrev slopeAt : Float → Model → Model
-slopeAt x = withSurface 0 (plane (onAxis x) (way (real 3 /ᶠ real 5) (real 0) (real 4 /ᶠ real 5)))
+slopeAt x = withSurface 0 (plane (onAxis x) (way (floatOf 3 /ᶠ floatOf 5) (floatOf 0) (floatOf 4 /ᶠ floatOf 5)))
 
 abbrev askewAt : Float → Cutting
 askewAt t = record { limits = largest; model = askew; edge = 0; fraction = t }
@@ -204,8 +204,8 @@ askewAt t = record { limits = largest; model = askew; edge = 0; fraction = t }
 abbrev cuts : List (Row Cutting (List ℕ))
 cuts =
     -- 1
-    (cutAt (real 0) gives 1 ∷ 1 ∷ [])
-    ∷ (cutAt (real 1) gives 1 ∷ 1 ∷ [])
+    (cutAt (floatOf 0) gives 1 ∷ 1 ∷ [])
+    ∷ (cutAt (floatOf 1) gives 1 ∷ 1 ∷ [])
     ∷ (cutAt nan gives 1 ∷ 1 ∷ [])
     ∷ (cutAt (inf false) gives 1 ∷ 1 ∷ [])
     -- 2
@@ -221,46 +221,46 @@ cuts =
     ∷ (cut (curveIs none blade) gives 5 ∷ 1 ∷ [])
     ∷ (cut (curveIs (some 9) blade) gives 5 ∷ 2 ∷ [])
     ∷ (cut (otherCurve blade) gives 5 ∷ 7 ∷ [])
-    ∷ (cut (withCurve 0 (plane (onAxis (real 0)) up) blade) gives 5 ∷ 7 ∷ [])
+    ∷ (cut (withCurve 0 (plane (onAxis (floatOf 0)) up) blade) gives 5 ∷ 7 ∷ [])
     -- 6: start, end
     ∷ (cut (endsAre (some 9) (some 1) blade) gives 6 ∷ 2 ∷ [])
     ∷ (cut (endsAre (some 0) (some 9) blade) gives 6 ∷ 2 ∷ [])
     -- 7: a line that runs backwards, two ends in one place
-    ∷ (cut (withCurve 0 (line (onAxis (real 0)) left) blade) gives 7 ∷ 4 ∷ [])
+    ∷ (cut (withCurve 0 (line (onAxis (floatOf 0)) left) blade) gives 7 ∷ 4 ∷ [])
     ∷ (cut (endsAre (some 0) (some 0) blade) gives 7 ∷ 4 ∷ [])
     -- 8: lo not finite, hi not finite, both the same float
-    ∷ (cut (startAt (onAxis (neg (real (2 ^ 1023)))) (withCurve 0 (line (onAxis (real (2 ^ 1023))) right) blade)) gives 8 ∷ 7 ∷ [])
-    ∷ (cut (endAt (onAxis (real (2 ^ 1023))) (withCurve 0 (line (onAxis (neg (real (2 ^ 1023)))) right) blade)) gives 8 ∷ 7 ∷ [])
-    ∷ (cut (withCurve 0 (line (onAxis (neg (real (2 ^ 60)))) right) blade) gives 8 ∷ 7 ∷ [])
+    ∷ (cut (startAt (onAxis (neg (floatOf (2 ^ 1023)))) (withCurve 0 (line (onAxis (floatOf (2 ^ 1023))) right) blade)) gives 8 ∷ 7 ∷ [])
+    ∷ (cut (endAt (onAxis (floatOf (2 ^ 1023))) (withCurve 0 (line (onAxis (neg (floatOf (2 ^ 1023)))) right) blade)) gives 8 ∷ 7 ∷ [])
+    ∷ (cut (withCurve 0 (line (onAxis (neg (floatOf (2 ^ 60)))) right) blade) gives 8 ∷ 7 ∷ [])
     -- 9: hi - lo is above the floats
-    ∷ (cut (startAt (onAxis (neg (real (2 ^ 1023)))) (endAt (onAxis (real (2 ^ 1023))) blade)) gives 9 ∷ 4 ∷ [])
+    ∷ (cut (startAt (onAxis (neg (floatOf (2 ^ 1023)))) (endAt (onAxis (floatOf (2 ^ 1023))) blade)) gives 9 ∷ 4 ∷ [])
     -- 10: near the start, near the end; at the whole precision, not at half of it
-    ∷ (cutAt (real 1 /ᶠ real 4096) gives 10 ∷ 4 ∷ [])
-    ∷ (cutAt (real 4095 /ᶠ real 4096) gives 10 ∷ 4 ∷ [])
-    ∷ (cut (withPrecision (real 1) blade) gives 10 ∷ 4 ∷ [])
+    ∷ (cutAt (floatOf 1 /ᶠ floatOf 4096) gives 10 ∷ 4 ∷ [])
+    ∷ (cutAt (floatOf 4095 /ᶠ floatOf 4096) gives 10 ∷ 4 ∷ [])
+    ∷ (cut (withPrecision (floatOf 1) blade) gives 10 ∷ 4 ∷ [])
     -- 11: repeated, behind the fin between them; points to another edge; loop missing; not exactly once in its loop
     ∷ (cut (finsAre (0 ∷ 1 ∷ 0 ∷ []) blade) gives 11 ∷ 1 ∷ [])
-    ∷ (cut (finsAre (0 ∷ 1 ∷ 0 ∷ []) (withFin 1 (finOf 9 0 negative) blade)) gives 11 ∷ 2 ∷ [])
-    ∷ (cut (withFin 1 (finOf 9 5 negative) blade) gives 11 ∷ 1 ∷ [])
-    ∷ (cut (withFin 1 (finOf 9 0 negative) blade) gives 11 ∷ 2 ∷ [])
-    ∷ (cut (withLoop 0 (loopOf 9 (0 ∷ [])) (finsAre (1 ∷ []) blade)) gives 11 ∷ 1 ∷ [])
-    ∷ (cut (withLoop 0 (loopOf 9 (0 ∷ 1 ∷ 0 ∷ [])) blade) gives 11 ∷ 1 ∷ [])
+    ∷ (cut (finsAre (0 ∷ 1 ∷ 0 ∷ []) (withFin 1 (aFin 9 0 negative) blade)) gives 11 ∷ 2 ∷ [])
+    ∷ (cut (withFin 1 (aFin 9 5 negative) blade) gives 11 ∷ 1 ∷ [])
+    ∷ (cut (withFin 1 (aFin 9 0 negative) blade) gives 11 ∷ 2 ∷ [])
+    ∷ (cut (withLoop 0 (aLoop 9 (0 ∷ [])) (finsAre (1 ∷ []) blade)) gives 11 ∷ 1 ∷ [])
+    ∷ (cut (withLoop 0 (aLoop 9 (0 ∷ 1 ∷ 0 ∷ [])) blade) gives 11 ∷ 1 ∷ [])
     -- face missing; no surface, missing, not a plane
-    ∷ (cut (withLoop 0 (loopOf 9 (0 ∷ 1 ∷ [])) blade) gives 11 ∷ 2 ∷ [])
+    ∷ (cut (withLoop 0 (aLoop 9 (0 ∷ 1 ∷ [])) blade) gives 11 ∷ 2 ∷ [])
     ∷ (cut (surfaceIs none blade) gives 11 ∷ 1 ∷ [])
     ∷ (cut (surfaceIs (some 9) blade) gives 11 ∷ 2 ∷ [])
     ∷ (cut (otherSurface blade) gives 11 ∷ 7 ∷ [])
-    ∷ (cut (withSurface 0 (line (onAxis (real 0)) right) blade) gives 11 ∷ 7 ∷ [])
+    ∷ (cut (withSurface 0 (line (onAxis (floatOf 0)) right) blade) gives 11 ∷ 7 ∷ [])
     -- off the plane, and just at the tolerance: at lo, at hi, at the split parameter alone
-    ∷ (cut (slopeAt (real 4) blade) gives 11 ∷ 1 ∷ [])
-    ∷ (cut (slopeAt (real 0) blade) gives 11 ∷ 1 ∷ [])
-    ∷ (askewAt (real 1 /ᶠ real 5) gives 11 ∷ 1 ∷ [])
-    ∷ (cut (tolerantEdge quarter (withSurface 0 (plane (at (real 0) (real 0) quarter) up) blade)) gives 11 ∷ 7 ∷ [])
-    ∷ (cut (tolerantEdge (real 12 /ᶠ real 5) (slopeAt (real 0) blade)) gives 11 ∷ 7 ∷ [])
-    ∷ (askewAt (real 4 /ᶠ real 5) gives 11 ∷ 7 ∷ [])
+    ∷ (cut (slopeAt (floatOf 4) blade) gives 11 ∷ 1 ∷ [])
+    ∷ (cut (slopeAt (floatOf 0) blade) gives 11 ∷ 1 ∷ [])
+    ∷ (askewAt (floatOf 1 /ᶠ floatOf 5) gives 11 ∷ 1 ∷ [])
+    ∷ (cut (tolerantEdge quarter (withSurface 0 (plane (at (floatOf 0) (floatOf 0) quarter) up) blade)) gives 11 ∷ 7 ∷ [])
+    ∷ (cut (tolerantEdge (floatOf 12 /ᶠ floatOf 5) (slopeAt (floatOf 0) blade)) gives 11 ∷ 7 ∷ [])
+    ∷ (askewAt (floatOf 4 /ᶠ floatOf 5) gives 11 ∷ 7 ∷ [])
     -- half the precision is the edge's tolerance: off by 0.0004 passes, by 0.001 doesn't
-    ∷ (cut (withSurface 0 (plane (at (real 0) (real 0) (real 1 /ᶠ real 2500)) up) blade) gives 0 ∷ 0 ∷ [])
-    ∷ (cut (withSurface 0 (plane (at (real 0) (real 0) (real 1 /ᶠ real 1100)) up) blade) gives 11 ∷ 1 ∷ [])
+    ∷ (cut (withSurface 0 (plane (at (floatOf 0) (floatOf 0) (floatOf 1 /ᶠ floatOf 2500)) up) blade) gives 0 ∷ 0 ∷ [])
+    ∷ (cut (withSurface 0 (plane (at (floatOf 0) (floatOf 0) (floatOf 1 /ᶠ floatOf 1100)) up) blade) gives 11 ∷ 1 ∷ [])
     -- 12
     ∷ (cut (shellIs 0 (0 ∷ []) (0 ∷ 5 ∷ 0 ∷ []) [] blade) gives 12 ∷ 1 ∷ [])
     -- 13: all fit; then a table of fins, edges, vertices that is full, a list of wire edges, of a loop's fins (both counted together), of an edge's
@@ -272,11 +272,11 @@ cuts =
     ∷ (within (room 4 2 3 2 3 2) gives 13 ∷ 8 ∷ [])
     ∷ (within (room 4 2 3 2 4 1) gives 13 ∷ 8 ∷ [])
     -- of two that refuse, the first decides
-    ∷ (record { limits = largest; model = blade; edge = 9; fraction = real 0 } gives 1 ∷ 1 ∷ [])
+    ∷ (record { limits = largest; model = blade; edge = 9; fraction = floatOf 0 } gives 1 ∷ 1 ∷ [])
     ∷ (cut (edgeIs none (some 1) none (9 ∷ []) blade) gives 3 ∷ 2 ∷ [])
     ∷ (cut (edgeIs none (some 9) none (0 ∷ []) blade) gives 4 ∷ 7 ∷ [])
     ∷ (cut (edgeIs (some 9) (some 1) none (0 ∷ []) blade) gives 5 ∷ 1 ∷ [])
-    ∷ (cut (withPrecision (real 1) (surfaceIs none blade)) gives 10 ∷ 4 ∷ [])
+    ∷ (cut (withPrecision (floatOf 1) (surfaceIs none blade)) gives 10 ∷ 4 ∷ [])
     ∷ (cut (surfaceIs none (shellIs 0 (0 ∷ []) (0 ∷ 0 ∷ []) [] blade)) gives 11 ∷ 1 ∷ [])
     ∷ (record { limits = room 2 1 2 2 2 2; model = shellIs 0 (0 ∷ []) (0 ∷ 0 ∷ []) [] blade; edge = 0; fraction = quarter } gives 12 ∷ 1 ∷ [])
     ∷ []
@@ -288,14 +288,14 @@ cuts-hold = refl
 -- `edge_parameter_bounds` passes over tests 1, 3 and 9 to 13
 abbrev bounds : List (Row Model (Answer ParamRange))
 bounds =
-    (blade gives given (record { lo = real 0; hi = real 4 }))
-    ∷ (finsAre (9 ∷ []) (surfaceIs none (shellIs 0 [] (0 ∷ 0 ∷ []) [] blade)) gives given (record { lo = real 0; hi = real 4 }))
+    (blade gives given (record { lo = floatOf 0; hi = floatOf 4 }))
+    ∷ (finsAre (9 ∷ []) (surfaceIs none (shellIs 0 [] (0 ∷ 0 ∷ []) [] blade)) gives given (record { lo = floatOf 0; hi = floatOf 4 }))
     ∷ (endsAre none (some 1) blade gives refused 7)
     ∷ (edgeIs none (some 1) none [] blade gives refused 7)
     ∷ (curveIs none blade gives refused 1)
     ∷ (endsAre (some 9) (some 1) blade gives refused 2)
     ∷ (endsAre (some 0) (some 0) blade gives refused 4)
-    ∷ (withCurve 0 (line (onAxis (neg (real (2 ^ 60)))) right) blade gives refused 7)
+    ∷ (withCurve 0 (line (onAxis (neg (floatOf (2 ^ 60)))) right) blade gives refused 7)
     ∷ []
 
 bounds-hold : map (λ r. edgeParameterBounds (r .input) 0) bounds ≡ map (λ r. r .result) bounds
@@ -334,8 +334,8 @@ split-blade : seen quarter (tolerantEdge quarter (shellIs 0 (0 ∷ []) (7 ∷ 0 
           record { fins = 0 ∷ 1 ∷ []; start = some 0; end = some 2; curve = some 0; tolerance = Own quarter }
           ∷ record { fins = 2 ∷ 3 ∷ []; start = some 2; end = some 1; curve = some 0; tolerance = Own quarter }
           ∷ [];
-      fins = finOf 0 1 positive ∷ finOf 0 1 negative ∷ [];
-      vertex = record { point = onAxis (real 1); tolerance = Own quarter };
+      fins = aFin 0 1 positive ∷ aFin 0 1 negative ∷ [];
+      vertex = record { point = onAxis (floatOf 1); tolerance = Own quarter };
       used = 4 ∷ 2 ∷ 3 ∷ 1 ∷ [];
     }
 unfolding computing
@@ -345,7 +345,7 @@ split-blade = refl
 abbrev loopsAfter : Model → List (List ℕ)
 loopsAfter m = let after = modelAfter largest m 0 quarter in map (λ l. after .loops .slot l .fins) (0 ∷ 1 ∷ 2 ∷ [])
 
-owners-gain : loopsAfter (withLoop 1 (loopOf 1 (4 ∷ 5 ∷ 6 ∷ 7 ∷ 3 ∷ [])) stone)
+owners-gain : loopsAfter (withLoop 1 (aLoop 1 (4 ∷ 5 ∷ 6 ∷ 7 ∷ 3 ∷ [])) stone)
     ≡ (0 ∷ 1 ∷ 2 ∷ 24 ∷ 3 ∷ []) ∷ (4 ∷ 5 ∷ 6 ∷ 7 ∷ 3 ∷ []) ∷ (8 ∷ 25 ∷ 9 ∷ 10 ∷ 11 ∷ []) ∷ []
 unfolding computing
 owners-gain = refl

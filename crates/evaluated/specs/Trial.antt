@@ -7,7 +7,7 @@ use lib.ListN.{length}
 use lib.Ieee.{Float, nan, binary64, toBits}
 use Rattle.numbers.specs.Ops.{pointI, addI}
 use Rattle.vectors.specs.declared.vector.Point3.{Point3}
-use Rattle.meaning.specs.Floats.{_/ᶠ_, real}
+use Rattle.meaning.specs.Floats.{_/ᶠ_, floatOf}
 use Rattle.meaning.specs.Model.{Model, solid, largest}
 use Rattle.meaning.specs.Refuse.{Answer, refused, given}
 use Rattle.meaning.specs.Walks.{bodyFaces, bodyEdges, bodyVertices}
@@ -15,7 +15,7 @@ use Rattle.meaning.specs.Inquire.{bodyBoundingBox, bodyVolume}
 use Rattle.meaning.specs.Split.{modelAfter, splitLineEdge}
 use Rattle.meaning.specs.Faults.{checkBody, sawing, fitToSaw}
 use Rattle.meaning.specs.Formed.{wellFormed, topologicalReport}
-use Rattle.meaning.specs.Stone.{stone, loopOf, regionOf}
+use Rattle.meaning.specs.Stone.{stone, aLoop, aRegion}
 use Rattle.meaning.specs.Blade.{Row, _gives_, withBody, withRegion, withLoop}
 use Rattle.meaning.specs.Computing.{computing}
 
@@ -53,33 +53,33 @@ tell (box-of m) = told (λ b. floats (coordinates (b .min) ++ coordinates (b .ma
 tell (split-A-at t) =
     told (λ s. floats (coordinates (modelAfter largest stone 0 t .vertices .slot (s .vertex) .point))) (splitLineEdge largest stone 0 t)
 tell (faults-of m) = told (λ r. numbers (map (λ f. f .reason) (r .faults))) (checkBody m sawing 0)
-tell (sum-of a b) = let s = addI (pointI (real a)) (pointI (real b)) in numbers (toBits binary64 (s .lo) ∷ toBits binary64 (s .hi) ∷ [])
+tell (sum-of a b) = let s = addI (pointI (floatOf a)) (pointI (floatOf b)) in numbers (toBits binary64 (s .lo) ∷ toBits binary64 (s .hi) ∷ [])
 
 -- ---- 01's rows
 
 -- 1 / 2 ^ n
 abbrev part : ℕ → Float
-part n = real 1 /ᶠ real (2 ^ n)
+part n = floatOf 1 /ᶠ floatOf (2 ^ n)
 
 -- "last fin struck from one loop": loop 0 loses its fourth fin
 abbrev struck : Model
-struck = withLoop 0 (loopOf 0 (0 ∷ 1 ∷ 2 ∷ [])) stone
+struck = withLoop 0 (aLoop 0 (0 ∷ 1 ∷ 2 ∷ [])) stone
 
 -- "solid with a void region only": the body keeps its first region alone, which has no shell
 abbrev hollow : Model
-hollow = withBody 0 (record { kind = solid; regions = 0 ∷ [] }) (withRegion 0 (regionOf 0 false []) stone)
+hollow = withBody 0 (record { kind = solid; regions = 0 ∷ [] }) (withRegion 0 (aRegion 0 false []) stone)
 
 abbrev pub rows : List (Row Ask Told)
 rows =
     (walks-of stone gives numbers (6 ∷ 12 ∷ 8 ∷ []))
-    ∷ (volume-of stone gives floats (real 24 ∷ []))
-    ∷ (box-of stone gives floats (real 0 ∷ real 0 ∷ real 0 ∷ real 4 ∷ real 3 ∷ real 2 ∷ []))
-    ∷ (split-A-at (part 2) gives floats (real 1 ∷ real 0 ∷ real 0 ∷ []))
-    ∷ (split-A-at (real 0) gives refusal 1)
-    ∷ (split-A-at (real 1) gives refusal 1)
+    ∷ (volume-of stone gives floats (floatOf 24 ∷ []))
+    ∷ (box-of stone gives floats (floatOf 0 ∷ floatOf 0 ∷ floatOf 0 ∷ floatOf 4 ∷ floatOf 3 ∷ floatOf 2 ∷ []))
+    ∷ (split-A-at (part 2) gives floats (floatOf 1 ∷ floatOf 0 ∷ floatOf 0 ∷ []))
+    ∷ (split-A-at (floatOf 0) gives refusal 1)
+    ∷ (split-A-at (floatOf 1) gives refusal 1)
     ∷ (split-A-at nan gives refusal 1)
     ∷ (split-A-at (part 12) gives refusal 4)
-    ∷ (split-A-at (part 11) gives floats (part 9 ∷ real 0 ∷ real 0 ∷ []))
+    ∷ (split-A-at (part 11) gives floats (part 9 ∷ floatOf 0 ∷ floatOf 0 ∷ []))
     ∷ (faults-of struck gives numbers (18 ∷ []))
     ∷ (faults-of hollow gives numbers [])
     ∷ (volume-of hollow gives refusal 4)

@@ -50,5 +50,5 @@ abbrev pub withRecord : ℕ → ℕ → List ℕ → List Float → Model → Mo
 withRecord k i r s m = each (λ A q t a. cond (eqb q k) (edited t i (λ _. a)) t) r s m
 
 -- table k has one record more, that of the words r and the floats s
-abbrev pub withNew : ℕ → List ℕ → List Float → Model → Model
-withNew k r s m = each (λ A q t a. cond (eqb q k) (inserted t a) t) r s m
+abbrev pub withOneMore : ℕ → List ℕ → List Float → Model → Model
+withOneMore k r s m = each (λ A q t a. cond (eqb q k) (inserted t a) t) r s m

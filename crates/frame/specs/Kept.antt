@@ -21,7 +21,7 @@ use Rattle.model.specs.Fit.{Inside, Sized, Fit}
 use Rattle.model.specs.Laws.{used-inside, before-tables}
 use Rattle.frame.specs.Put.{putWords, putReals, counted, unlessRefused}
 use Rattle.frame.specs.Frame.{Elsewhere, elsewhere, words-there, reals-there, counts-kept, counted-words, counted-long, counted-there, counted-else}
-use Rattle.frame.specs.Change.{SameTable, SameModel, withRecord, withNew}
+use Rattle.frame.specs.Change.{SameTable, SameModel, withRecord, withOneMore}
 
 -- ---- a refusal leaves what stood
 
@@ -209,7 +209,7 @@ module _ (room w r : List ℕ) (x s : List Float) (k : ℕ) (f : Fit room w x) (
           }
 
   -- the model has one record more, and else is as it was
-  pub model-new : SameModel (decode room w″ x″) (withNew k r s (decode room w x))
+  pub model-new : SameModel (decode room w″ x″) (withOneMore k r s (decode room w x))
   unfolding decode
   model-new =
       record {

@@ -14,7 +14,7 @@ use Rattle.meaning.specs.Lists.{all, member, count, joined, rotated, listed, is
 use Rattle.meaning.specs.Model.{Model, body, region, shell, face, loop, fin, edge, Limits}
 use Rattle.meaning.specs.Walks.{readableFin}
 use Rattle.meaning.specs.Faults.{Finding, fault, onlyIf, finFindings, meetsNext, opens, loopFindings, checkedFrom, faceFindings, shellFindings, regionFindings}
-use Rattle.meaning.specs.Formed.{belowMaybe, Listed, regionOf, shellOf, loopOf, finOf, faceOf, closed, loopOk, WellFormed, topological}
+use Rattle.meaning.specs.Formed.{belowMaybe, Listed, regionNames, shellNames, loopNames, finNames, faceNames, closed, loopCloses, WellFormed, topological}
 use Rattle.lists.specs.Tests.{and-both, bit-true}
 use Rattle.lists.specs.Lists.{count-above, member-counted, all-counted, joined-nothing, joined-same}
 
@@ -58,7 +58,7 @@ closed-opens m (i ∷ k) (j ∷ l) h =
 module _ (x : Limits) (m : Model) (w : WellFormed x m) where
   -- what a loop lists exists, and names it
   pub own : (l : ℕ) → l < m .loops .used → all (λ f. ltb f (m .fins .used) && eqb (fin m f .owner) l) (loop m l .fins) ≡ true
-  own l hl = owned (m .loops .used) (m .fins .used) (λ l. loop m l .fins) (finOf m) (w .fins) l hl (w .ids .loop-fins l hl)
+  own l hl = owned (m .loops .used) (m .fins .used) (λ l. loop m l .fins) (finNames m) (w .fins) l hl (w .ids .loop-fins l hl)
 
   pub fin-clean : (l i : ℕ) → ltb i (m .fins .used) && eqb (fin m i .owner) l ≡ true → finFindings m l i ≡ []
   unfolding finFindings
@@ -72,7 +72,7 @@ module _ (x : Limits) (m : Model) (w : WellFormed x m) where
 
   -- a loop of the face that it names
   pub loop-clean : (f l : ℕ) → l < m .loops .used → loop m l .face ≡ f → loopFindings m topological f l ≡ []
-  unfolding loopFindings loopOk
+  unfolding loopFindings loopCloses
   loop-clean f l hl q =
       let both : (not (eqb (length (loop m l .fins)) 0) ≡ true) × (closed m (loop m l .fins) (rotated (loop m l .fins)) ≡ true) =
       and-both (not (eqb (length (loop m l .fins)) 0)) (closed m (loop m l .fins) (rotated (loop m l .fins))) (w .closes l hl) in
@@ -85,42 +85,42 @@ module _ (x : Limits) (m : Model) (w : WellFormed x m) where
       )
 
   -- a face, from a shell that is its front or back
-  pub face-clean : (s f : ℕ) → ltb f (m .faces .used) && faceOf m f s ≡ true → faceFindings m topological s f ≡ surfaceless m s f
+  pub face-clean : (s f : ℕ) → ltb f (m .faces .used) && faceNames m f s ≡ true → faceFindings m topological s f ≡ surfaceless m s f
   unfolding faceFindings surfaceless
   face-clean s f h =
-      let both : (ltb f (m .faces .used) ≡ true) × (faceOf m f s ≡ true) = and-both (ltb f (m .faces .used)) (faceOf m f s) h in
+      let both : (ltb f (m .faces .used) ≡ true) × (faceNames m f s ≡ true) = and-both (ltb f (m .faces .used)) (faceNames m f s) h in
       let hf : f < m .faces .used = ltb-true f (m .faces .used) (both .0) in
       rw (
         both .0,
         both .1,
-        joined-nothing (loopFindings m topological f) (λ l. ltb l (m .loops .used) && loopOf m l f) (face m f .loops)
-            (λ l q. let two : (ltb l (m .loops .used) ≡ true) × (loopOf m l f ≡ true) = and-both (ltb l (m .loops .used)) (loopOf m l f) q in loop-clean f l (ltb-true l (m .loops .used) (two .0)) (eqb-true (loop m l .face) f (two .1)))
-            (owned (m .faces .used) (m .loops .used) (λ f. face m f .loops) (loopOf m) (w .loops) f hf (w .ids .face-loops f hf)),
+        joined-nothing (loopFindings m topological f) (λ l. ltb l (m .loops .used) && loopNames m l f) (face m f .loops)
+            (λ l q. let two : (ltb l (m .loops .used) ≡ true) × (loopNames m l f ≡ true) = and-both (ltb l (m .loops .used)) (loopNames m l f) q in loop-clean f l (ltb-true l (m .loops .used) (two .0)) (eqb-true (loop m l .face) f (two .1)))
+            (owned (m .faces .used) (m .loops .used) (λ f. face m f .loops) (loopNames m) (w .loops) f hf (w .ids .face-loops f hf)),
         append-nil (onlyIf (not (isSome (face m f .surface))) (fault 9 f)),
       )
 
-  pub shell-clean : (r s : ℕ) → ltb s (m .shells .used) && shellOf m s r ≡ true → shellFindings m topological r s ≡ joined (surfaceless m s) (shell m s .faces)
+  pub shell-clean : (r s : ℕ) → ltb s (m .shells .used) && shellNames m s r ≡ true → shellFindings m topological r s ≡ joined (surfaceless m s) (shell m s .faces)
   unfolding shellFindings
   shell-clean r s h =
-      let both : (ltb s (m .shells .used) ≡ true) × (shellOf m s r ≡ true) = and-both (ltb s (m .shells .used)) (shellOf m s r) h in
+      let both : (ltb s (m .shells .used) ≡ true) × (shellNames m s r ≡ true) = and-both (ltb s (m .shells .used)) (shellNames m s r) h in
       let hs : s < m .shells .used = ltb-true s (m .shells .used) (both .0) in
       rw (both .0, both .1)
-      (joined-same (faceFindings m topological s) (surfaceless m s) (λ f. ltb f (m .faces .used) && faceOf m f s) (shell m s .faces) (face-clean s)
-      (owned (m .shells .used) (m .faces .used) (λ s. shell m s .faces) (faceOf m) (w .faces) s hs (w .ids .shell-faces s hs)))
+      (joined-same (faceFindings m topological s) (surfaceless m s) (λ f. ltb f (m .faces .used) && faceNames m f s) (shell m s .faces) (face-clean s)
+      (owned (m .shells .used) (m .faces .used) (λ s. shell m s .faces) (faceNames m) (w .faces) s hs (w .ids .shell-faces s hs)))
 
-  pub region-clean : (b r : ℕ) → ltb r (m .regions .used) && regionOf m r b ≡ true
+  pub region-clean : (b r : ℕ) → ltb r (m .regions .used) && regionNames m r b ≡ true
       → regionFindings m topological b r ≡ joined (λ s. joined (surfaceless m s) (shell m s .faces)) (region m r .shells)
   unfolding regionFindings
   region-clean b r h =
-      let both : (ltb r (m .regions .used) ≡ true) × (regionOf m r b ≡ true) = and-both (ltb r (m .regions .used)) (regionOf m r b) h in
+      let both : (ltb r (m .regions .used) ≡ true) × (regionNames m r b ≡ true) = and-both (ltb r (m .regions .used)) (regionNames m r b) h in
       let hr : r < m .regions .used = ltb-true r (m .regions .used) (both .0) in
       rw (both .0, both .1)
-      (joined-same (shellFindings m topological r) (λ s. joined (surfaceless m s) (shell m s .faces)) (λ s. ltb s (m .shells .used) && shellOf m s r) (region m r .shells) (shell-clean r)
-      (owned (m .regions .used) (m .shells .used) (λ r. region m r .shells) (shellOf m) (w .shells) r hr (w .ids .region-shells r hr)))
+      (joined-same (shellFindings m topological r) (λ s. joined (surfaceless m s) (shell m s .faces)) (λ s. ltb s (m .shells .used) && shellNames m s r) (region m r .shells) (shell-clean r)
+      (owned (m .regions .used) (m .shells .used) (λ r. region m r .shells) (shellNames m) (w .shells) r hr (w .ids .region-shells r hr)))
 
   -- all that regions, shells, faces and loops can give, in a well-formed model: faces without a surface
   pub regions-clean : (b : ℕ) → b < m .bodies .used
       → joined (regionFindings m topological b) (body m b .regions) ≡ joined (λ r. joined (λ s. joined (surfaceless m s) (shell m s .faces)) (region m r .shells)) (body m b .regions)
   regions-clean b hb =
-      joined-same (regionFindings m topological b) (λ r. joined (λ s. joined (surfaceless m s) (shell m s .faces)) (region m r .shells)) (λ r. ltb r (m .regions .used) && regionOf m r b) (body m b .regions) (region-clean b)
-      (owned (m .bodies .used) (m .regions .used) (λ b. body m b .regions) (regionOf m) (w .regions) b hb (w .ids .body-regions b hb))
+      joined-same (regionFindings m topological b) (λ r. joined (λ s. joined (surfaceless m s) (shell m s .faces)) (region m r .shells)) (λ r. ltb r (m .regions .used) && regionNames m r b) (body m b .regions) (region-clean b)
+      (owned (m .bodies .used) (m .regions .used) (λ b. body m b .regions) (regionNames m) (w .regions) b hb (w .ids .body-regions b hb))

@@ -11,7 +11,7 @@ use borrow.Author.Tests.{ltb-true, leb-true, eqb-true, lt-ltb, eq-eqb, le-leb}
 use Rattle.meaning.specs.Lists.{allBelow, count}
 use Rattle.meaning.specs.Model.{Model, body, region, shell, face, loop, fin, edge, vertex, Limits}
 use Rattle.meaning.specs.Edits.{toleranceOk}
-use Rattle.meaning.specs.Formed.{tableTests, tablesOk, Readable, hasAll, hasMaybe, idTests, idsOk, StoredIds, bit, Listed, listedOk, regionOf, shellOf, loopOf, finOf, faceOf, finOn, loopOk, WellFormed, wiresOk, formedTests, wellFormed}
+use Rattle.meaning.specs.Formed.{tableTests, tablesPass, Readable, hasAll, hasMaybe, idTests, idsOk, StoredIds, bit, Listed, listedOk, regionNames, shellNames, loopNames, finNames, faceNames, finNamesEdge, loopCloses, WellFormed, wiresOk, formedTests, wellFormed}
 use Rattle.lists.specs.Tests.{every-at, allBelow-at, every-cons, every-none, allBelow-all}
 use Rattle.lists.specs.Lists.{all-at, all-counted}
 
@@ -41,8 +41,8 @@ named : (f : ℕ → ℕ) (limit n : ℕ) → allBelow (λ i. ltb (f i) limit) n
 named f limit n h i hi = ltb-true (f i) limit (allBelow-at (λ i. ltb (f i) limit) n i h hi)
 
 module _ (x : Limits) (m : Model) where
-  pub readable : tablesOk x m ≡ true → Readable x m
-  unfolding tablesOk
+  pub readable : tablesPass x m ≡ true → Readable x m
+  unfolding tablesPass
   readable h =
       let t : (k : ℕ) → getD (tableTests x m) k true ≡ true = every-at (tableTests x m) h in
       record {
@@ -102,13 +102,13 @@ module _ (x : Limits) (m : Model) where
       record {
         tables = readable (t 0);
         ids = stored-ids (t 1);
-        regions = listed-once (m .bodies .used) (m .regions .used) (λ b. body m b .regions) (regionOf m) (t 2);
-        shells = listed-once (m .regions .used) (m .shells .used) (λ r. region m r .shells) (shellOf m) (t 3);
-        loops = listed-once (m .faces .used) (m .loops .used) (λ f. face m f .loops) (loopOf m) (t 4);
-        fins = listed-once (m .loops .used) (m .fins .used) (λ l. loop m l .fins) (finOf m) (t 5);
-        faces = listed-once (m .shells .used) (m .faces .used) (λ s. shell m s .faces) (faceOf m) (t 6);
-        edges = listed-once (m .edges .used) (m .fins .used) (λ e. edge m e .fins) (finOn m) (t 7);
-        closes = λ l h. allBelow-at (λ l. loopOk m (loop m l .fins)) (m .loops .used) l (t 8) h;
+        regions = listed-once (m .bodies .used) (m .regions .used) (λ b. body m b .regions) (regionNames m) (t 2);
+        shells = listed-once (m .regions .used) (m .shells .used) (λ r. region m r .shells) (shellNames m) (t 3);
+        loops = listed-once (m .faces .used) (m .loops .used) (λ f. face m f .loops) (loopNames m) (t 4);
+        fins = listed-once (m .loops .used) (m .fins .used) (λ l. loop m l .fins) (finNames m) (t 5);
+        faces = listed-once (m .shells .used) (m .faces .used) (λ s. shell m s .faces) (faceNames m) (t 6);
+        edges = listed-once (m .edges .used) (m .fins .used) (λ e. edge m e .fins) (finNamesEdge m) (t 7);
+        closes = λ l h. allBelow-at (λ l. loopCloses m (loop m l .fins)) (m .loops .used) l (t 8) h;
         wires = λ s e h. wires-once (shell m s .wireEdges) e (allBelow-at (λ s. wiresOk (shell m s .wireEdges)) (m .shells .used) s (t 9) h);
       }
 
@@ -127,8 +127,8 @@ once-listed n k list named-by s =
     (λ p hp. allBelow-all (λ c. eqb (count c (list p)) (bit (named-by c p))) k (λ c hc. eq-eqb (count c (list p)) (bit (named-by c p)) (s .once p c hp hc)))
 
 module _ (x : Limits) (m : Model) where
-  pub readable-passes : Readable x m → tablesOk x m ≡ true
-  unfolding tablesOk
+  pub readable-passes : Readable x m → tablesPass x m ≡ true
+  unfolding tablesPass
   readable-passes r = every-cons _ _ (le-leb (m .bodies .used) (x .bodies) (r .bodies)) (every-cons _ _ (le-leb (m .regions .used) (x .regions) (r .regions)) (every-cons _ _ (le-leb (m .shells .used) (x .shells) (r .shells)) (every-cons _ _ (le-leb (m .faces .used) (x .faces) (r .faces)) (every-cons _ _ (le-leb (m .loops .used) (x .loops) (r .loops)) (every-cons _ _ (le-leb (m .fins .used) (x .fins) (r .fins)) (every-cons _ _ (le-leb (m .edges .used) (x .edges) (r .edges)) (every-cons _ _ (le-leb (m .vertices .used) (x .vertices) (r .vertices)) (every-cons _ _ (le-leb (m .curves .used) (x .curves) (r .curves)) (every-cons _ _ (le-leb (m .surfaces .used) (x .surfaces) (r .surfaces)) (every-cons _ _ (below (λ i. length (body m i .regions)) (x .bodyRegions) (m .bodies .used) (r .body-regions)) (every-cons _ _ (below (λ i. length (region m i .shells)) (x .regionShells) (m .regions .used) (r .region-shells)) (every-cons _ _ (below (λ i. length (shell m i .faces)) (x .shellFaces) (m .shells .used) (r .shell-faces)) (every-cons _ _ (below (λ i. length (shell m i .wireEdges)) (x .shellWireEdges) (m .shells .used) (r .shell-wire-edges)) (every-cons _ _ (below (λ i. length (shell m i .acornVertices)) (x .shellAcornVertices) (m .shells .used) (r .shell-acorn-vertices)) (every-cons _ _ (below (λ i. length (face m i .loops)) (x .faceLoops) (m .faces .used) (r .face-loops)) (every-cons _ _ (below (λ i. length (loop m i .fins)) (x .loopFins) (m .loops .used) (r .loop-fins)) (every-cons _ _ (below (λ i. length (edge m i .fins)) (x .edgeFins) (m .edges .used) (r .edge-fins)) (every-cons _ _ (r .precision) (every-cons _ _ (allBelow-all (λ i. toleranceOk (edge m i .tolerance)) (m .edges .used) (r .edge-tolerance)) (every-cons _ _ (allBelow-all (λ i. toleranceOk (vertex m i .tolerance)) (m .vertices .used) (r .vertex-tolerance)) (every-none)))))))))))))))))))))
 
   pub stored-ids-pass : StoredIds m → idsOk m ≡ true
@@ -137,4 +137,4 @@ module _ (x : Limits) (m : Model) where
 
   pub facts-pass : WellFormed x m → wellFormed x m ≡ true
   unfolding wellFormed
-  facts-pass w = every-cons _ _ (readable-passes (w .tables)) (every-cons _ _ (stored-ids-pass (w .ids)) (every-cons _ _ (once-listed (m .bodies .used) (m .regions .used) (λ b. body m b .regions) (regionOf m) (w .regions)) (every-cons _ _ (once-listed (m .regions .used) (m .shells .used) (λ r. region m r .shells) (shellOf m) (w .shells)) (every-cons _ _ (once-listed (m .faces .used) (m .loops .used) (λ f. face m f .loops) (loopOf m) (w .loops)) (every-cons _ _ (once-listed (m .loops .used) (m .fins .used) (λ l. loop m l .fins) (finOf m) (w .fins)) (every-cons _ _ (once-listed (m .shells .used) (m .faces .used) (λ s. shell m s .faces) (faceOf m) (w .faces)) (every-cons _ _ (once-listed (m .edges .used) (m .fins .used) (λ e. edge m e .fins) (finOn m) (w .edges)) (every-cons _ _ (allBelow-all (λ l. loopOk m (loop m l .fins)) (m .loops .used) (w .closes)) (every-cons _ _ (allBelow-all (λ s. wiresOk (shell m s .wireEdges)) (m .shells .used) (λ s h. all-counted (λ e. leb (count e (shell m s .wireEdges)) 1) (shell m s .wireEdges) (λ e q. le-leb (count e (shell m s .wireEdges)) 1 (w .wires s e h)))) (every-none))))))))))
+  facts-pass w = every-cons _ _ (readable-passes (w .tables)) (every-cons _ _ (stored-ids-pass (w .ids)) (every-cons _ _ (once-listed (m .bodies .used) (m .regions .used) (λ b. body m b .regions) (regionNames m) (w .regions)) (every-cons _ _ (once-listed (m .regions .used) (m .shells .used) (λ r. region m r .shells) (shellNames m) (w .shells)) (every-cons _ _ (once-listed (m .faces .used) (m .loops .used) (λ f. face m f .loops) (loopNames m) (w .loops)) (every-cons _ _ (once-listed (m .loops .used) (m .fins .used) (λ l. loop m l .fins) (finNames m) (w .fins)) (every-cons _ _ (once-listed (m .shells .used) (m .faces .used) (λ s. shell m s .faces) (faceNames m) (w .faces)) (every-cons _ _ (once-listed (m .edges .used) (m .fins .used) (λ e. edge m e .fins) (finNamesEdge m) (w .edges)) (every-cons _ _ (allBelow-all (λ l. loopCloses m (loop m l .fins)) (m .loops .used) (w .closes)) (every-cons _ _ (allBelow-all (λ s. wiresOk (shell m s .wireEdges)) (m .shells .used) (λ s h. all-counted (λ e. leb (count e (shell m s .wireEdges)) 1) (shell m s .wireEdges) (λ e q. le-leb (count e (shell m s .wireEdges)) 1 (w .wires s e h)))) (every-none))))))))))

@@ -16,7 +16,7 @@ use Rattle.meaning.specs.Model.{Sense, positive, negative, Model, extended, cha
 use Rattle.meaning.specs.Edits.{toleranceOk}
 use Rattle.meaning.specs.Walks.{directed, endsOf}
 use Rattle.meaning.specs.Split.{tablesFit, edgeFits, gain, loopsFit, shellsFit, test13, splitRefusal, newFin, beside, withNew, firstHalf, secondHalf, afterSplit, whereAccepted, modelAfter, Cut, afterAll}
-use Rattle.meaning.specs.Formed.{Readable, belowMaybe, StoredIds, bit, Listed, finOf, finOn, loopOk, WellFormed}
+use Rattle.meaning.specs.Formed.{Readable, belowMaybe, StoredIds, bit, Listed, finNames, finNamesEdge, loopCloses, WellFormed}
 use Rattle.lists.specs.Tests.{and-both, allBelow-at, maybe-weaken, unless-zero}
 use Rattle.lists.specs.Lists.{count-cons, count-append, count-above, member-counted, member-uncounted, member-nth, place-nth, nth-place, place-below, all-weaken, all-joined, all-one, all-two, below-nth, length-run, all-run, count-run-before, count-run-in, double-count, bound-of}
 use Rattle.laws.specs.Loops.{firstStart, Follows, firstStart-append, follows-append, follows-loop, loop-follows}
@@ -59,7 +59,7 @@ module _ (x : Limits) (m : Model) (w : WellFormed x m) (e : ℕ) (t : Float) whe
       ]
 
   pub edges-kept :
-      Listed (afterSplit m e t .edges .used) (afterSplit m e t .fins .used) (λ p. edge (afterSplit m e t) p .fins) (finOn (afterSplit m e t))
+      Listed (afterSplit m e t .edges .used) (afterSplit m e t .fins .used) (λ p. edge (afterSplit m e t) p .fins) (finNamesEdge (afterSplit m e t))
   unfolding afterSplit extended changed
   edges-kept = record { once = edges-once }
 
@@ -175,7 +175,7 @@ module _ (x : Limits) (m : Model) (w : WellFormed x m) (e : ℕ) (t : Float) whe
         itself false = refl
 
     pub fins-kept :
-        Listed (afterSplit m e t .loops .used) (afterSplit m e t .fins .used) (λ l. loop (afterSplit m e t) l .fins) (finOf (afterSplit m e t))
+        Listed (afterSplit m e t .loops .used) (afterSplit m e t .fins .used) (λ l. loop (afterSplit m e t) l .fins) (finNames (afterSplit m e t))
     unfolding afterSplit extended changed
     fins-kept = record { once = fins-once }
 
@@ -246,9 +246,9 @@ module _ (x : Limits) (m : Model) (w : WellFormed x m) (e : ℕ) (t : Float) whe
         go true negative = omega arith
         go false s = omega arith
 
-    loop-keeps : (l : ℕ) (L : List ℕ) → all (λ f. ltb f (m .fins .used) && eqb (fin m f .owner) l) L ≡ true → loopOk m L ≡ true
-        → loopOk (afterSplit m e t) (joined (withNew m e l) L) ≡ true
-    unfolding loopOk joined
+    loop-keeps : (l : ℕ) (L : List ℕ) → all (λ f. ltb f (m .fins .used) && eqb (fin m f .owner) l) L ≡ true → loopCloses m L ≡ true
+        → loopCloses (afterSplit m e t) (joined (withNew m e l) L) ≡ true
+    unfolding loopCloses joined
     loop-keeps l [] a h = absurd (false≢true h)
     loop-keeps l (i ∷ k) a h =
         let both : Follows (afterSplit m e t) (joined (withNew m e l) (i ∷ k)) (endsOf m i .start) × (firstStart (afterSplit m e t) (joined (withNew m e l) (i ∷ k)) (endsOf m i .start) ≡ endsOf m i .start) =
@@ -257,7 +257,7 @@ module _ (x : Limits) (m : Model) (w : WellFormed x m) (e : ℕ) (t : Float) whe
         rw (length-append (withNew m e l i) (joined (withNew m e l) k)) (omega (arith, with-new-length l i)) in
         follows-loop (afterSplit m e t) (joined (withNew m e l) (i ∷ k)) (endsOf m i .start) long (both .0) (both .1)
 
-    pub closes-kept : (l : ℕ) → l < afterSplit m e t .loops .used → loopOk (afterSplit m e t) (loop (afterSplit m e t) l .fins) ≡ true
+    pub closes-kept : (l : ℕ) → l < afterSplit m e t .loops .used → loopCloses (afterSplit m e t) (loop (afterSplit m e t) l .fins) ≡ true
     unfolding afterSplit changed
     closes-kept l hl = loop-keeps l (loop m l .fins) (own x m w l hl) (w .closes l hl)
 

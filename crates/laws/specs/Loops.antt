@@ -11,7 +11,7 @@ use borrow.Author.Tests.{ne-eqb}
 use Rattle.meaning.specs.Model.{Model}
 use Rattle.meaning.specs.Walks.{endsOf}
 use Rattle.meaning.specs.Faults.{meetsNext}
-use Rattle.meaning.specs.Formed.{closed, loopOk}
+use Rattle.meaning.specs.Formed.{closed, loopCloses}
 use Rattle.lists.specs.Tests.{and-both, same-refl, same-true}
 
 abbrev pub firstStart : Model → List ℕ → Option ℕ → Option ℕ
@@ -44,11 +44,11 @@ closed-follows m i (j ∷ k) x h =
     (same-true _ _ (both .0), closed-follows m j k x (both .1))
 
 -- a list that is not empty and leads back to where it starts is a loop
-pub follows-loop : (m : Model) (l : List ℕ) (v : Option ℕ) → 1 ≤ length l → Follows m l v → firstStart m l v ≡ v → loopOk m l ≡ true
-unfolding loopOk
+pub follows-loop : (m : Model) (l : List ℕ) (v : Option ℕ) → 1 ≤ length l → Follows m l v → firstStart m l v ≡ v → loopCloses m l ≡ true
+unfolding loopCloses
 follows-loop m [] v h f q = absurd (omega arith)
 follows-loop m (i ∷ k) v h f q = rw (ne-eqb (suc (length k)) 0 (λ z. omega arith)) (follows-closed m i k i (rw q f))
 
-pub loop-follows : (m : Model) (i : ℕ) (k : List ℕ) → loopOk m (i ∷ k) ≡ true → Follows m (i ∷ k) (endsOf m i .start)
-unfolding loopOk
+pub loop-follows : (m : Model) (i : ℕ) (k : List ℕ) → loopCloses m (i ∷ k) ≡ true → Follows m (i ∷ k) (endsOf m i .start)
+unfolding loopCloses
 loop-follows m i k h = closed-follows m i k i (and-both (not (eqb (suc (length k)) 0)) (closed m (i ∷ k) (k ++ (i ∷ []))) h .1)

@@ -19,7 +19,7 @@ use Rattle.store.specs.declared.Found.the-variants.{There, Missing}
 use Rattle.store.specs.Queries.{thePlane}
 use Rattle.signs.specs.Signs.{increasingS, spanS, offPlaneS}
 use Rattle.meaning.specs.Lists.{allBelow, member, count, joined, the, isSome}
-use Rattle.meaning.specs.Floats.{real}
+use Rattle.meaning.specs.Floats.{floatOf}
 use Rattle.meaning.specs.Model.{Model, has, shell, face, loop, fin, edge, curve, surface, Limits}
 use Rattle.meaning.specs.Split.{isPositive, carrier, startPoint, endPoint, lo, hi, parameter, splitPoint, apart, tablesFit, edgeFits, loopsFit, shellsFit}
 
@@ -90,7 +90,7 @@ splitRows x m e t =
     -- there is no row 0: 01 counts from 1
     []
     -- 1. "Fraction not finite, ≤ 0 or ≥ 1: 1"
-    ∷ (1 when not (finite t && lt zeroF t && lt t (real 1)) ∷ [])
+    ∷ (1 when not (finite t && lt zeroF t && lt t (floatOf 1)) ∷ [])
     -- 2. "Edge missing: 2"
     ∷ (2 when not (has (m .edges) e) ∷ [])
     -- 3. "Per listed fin: missing 2, pcurve mark 7"

@@ -10,7 +10,7 @@ use Rattle.meaning.specs.Model.{Model, shell, Limits}
 use Rattle.meaning.specs.Refuse.{refused, given}
 use Rattle.meaning.specs.Split.{splitRefusal, EdgeSplit, splitLineEdge, modelAfter, Cut, afterAll}
 use Rattle.meaning.specs.Formed.{WellFormed, wellFormed, topologicalReport, emptyReport, hasEdge}
-use Rattle.laws.specs.Terms.{struck, itself, splitEdges, Restored, Walked, OneMore, SameWalks, eulerNumber}
+use Rattle.laws.specs.Terms.{struckFrom, itself, splitEdges, Restored, Walked, OneMore, SameWalks, eulerNumber}
 use Rattle.laws.specs.Decided.{decided, facts-pass}
 use Rattle.laws.specs.Kept.{splits-keep}
 use Rattle.laws.specs.Rows.{splitRows, Passes, RefusedAt}
@@ -57,7 +57,7 @@ euler-number-stays = euler-kept
 pub gives-back : (x : Limits) (m : Model) (l : List Cut) → WellFormed x m → Restored m (afterAll x m l) (splitEdges x m l) itself
 gives-back x m l w = restored-whole m (afterAll x m l) (splitEdges x m l) (w .ids) (splits-restore x m l)
 
-pub gives-back-any : (x : Limits) (m : Model) (l : List Cut) → Restored m (afterAll x m l) (splitEdges x m l) struck
+pub gives-back-any : (x : Limits) (m : Model) (l : List Cut) → Restored m (afterAll x m l) (splitEdges x m l) struckFrom
 gives-back-any = splits-restore
 
 -- and what was added to a list of wire edges stands right after the old edge (of a new fin 1 tells: every fin ends where the next starts)

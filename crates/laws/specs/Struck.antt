@@ -13,7 +13,7 @@ use Rattle.meaning.specs.Lists.{all, member, joined}
 use Rattle.meaning.specs.Model.{Sense, positive, negative, Model, extended, changed, body, region, shell, face, loop, fin, edge, Limits}
 use Rattle.meaning.specs.Split.{splitRefusal, newFin, beside, withNew, firstHalf, afterSplit, modelAfter, Cut, afterAll}
 use Rattle.meaning.specs.Formed.{StoredIds}
-use Rattle.laws.specs.Terms.{sifted, struck, itself, splitEdges, Restored}
+use Rattle.laws.specs.Terms.{sifted, struckFrom, itself, splitEdges, Restored}
 use Rattle.lists.specs.Tests.{and-both}
 use Rattle.lists.specs.Lists.{member-front-none, member-back-none, member-front}
 use Rattle.laws.specs.After.{withNewEdge, fin-was, edge-was, edge-was-fins, vertex-was, accepted, went-to}
@@ -44,7 +44,7 @@ sifted-joined p g [] h = refl
 sifted-joined p g (y ∷ l) h = rw (sifted-append p (g y) (joined g l), h y, sifted-joined p g l h) (sym (sifted-append p (y ∷ []) l))
 
 -- striking out twice
-pub struck-struck : (n k : ℕ) (l : List ℕ) → n ≤ k → struck n (struck k l) ≡ struck n l
+pub struck-struck : (n k : ℕ) (l : List ℕ) → n ≤ k → struckFrom n (struckFrom k l) ≡ struckFrom n l
 unfolding sifted
 struck-struck n k [] h = refl
 struck-struck n k (y ∷ l) h =
@@ -54,13 +54,13 @@ struck-struck n k (y ∷ l) h =
     ]
 
 -- struck by the later count, then by the earlier
-pub struck-back : (n k : ℕ) (a b c : List ℕ) → n ≤ k → struck k c ≡ struck k b → struck n b ≡ struck n a → struck n c ≡ struck n a
-struck-back n k a b c h p q = sym (struck-struck n k c h) ∙ ap (λ l. struck n l) p ∙ struck-struck n k b h ∙ q
+pub struck-back : (n k : ℕ) (a b c : List ℕ) → n ≤ k → struckFrom k c ≡ struckFrom k b → struckFrom n b ≡ struckFrom n a → struckFrom n c ≡ struckFrom n a
+struck-back n k a b c h p q = sym (struck-struck n k c h) ∙ ap (λ l. struckFrom n l) p ∙ struck-struck n k b h ∙ q
 
 -- ---- no split restores
 
 module _ (m : Model) where
-  pub restored-same : Restored m m [] struck
+  pub restored-same : Restored m m [] struckFrom
   unfolding member
   restored-same =
       record {
@@ -105,23 +105,23 @@ module _ (m : Model) where
 
 module _ (m : Model) (e : ℕ) (t : Float) (he : e < m .edges .used) where
   -- a fin and its new fin
-  struck-beside : (s : Sense) (f n : ℕ) → m .fins .used ≤ n → struck (m .fins .used) (beside s f n) ≡ struck (m .fins .used) (f ∷ [])
+  struck-beside : (s : Sense) (f n : ℕ) → m .fins .used ≤ n → struckFrom (m .fins .used) (beside s f n) ≡ struckFrom (m .fins .used) (f ∷ [])
   unfolding sifted
   struck-beside positive f n k = rw (le-ltb n (m .fins .used) k)
   struck-beside negative f n k = rw (le-ltb n (m .fins .used) k)
 
-  struck-fin : (l f : ℕ) → struck (m .fins .used) (withNew m e l f) ≡ struck (m .fins .used) (f ∷ [])
+  struck-fin : (l f : ℕ) → struckFrom (m .fins .used) (withNew m e l f) ≡ struckFrom (m .fins .used) (f ∷ [])
   struck-fin l f = go (member f (edge m e .fins) && eqb (fin m f .owner) l)
     where
-      go : (b : Bool) → struck (m .fins .used) (cond b (beside (fin m f .sense) f (newFin m e f)) (f ∷ [])) ≡ struck (m .fins .used) (f ∷ [])
+      go : (b : Bool) → struckFrom (m .fins .used) (cond b (beside (fin m f .sense) f (newFin m e f)) (f ∷ [])) ≡ struckFrom (m .fins .used) (f ∷ [])
       go true = struck-beside (fin m f .sense) f (newFin m e f) (omega arith)
       go false = refl
 
-  struck-wire : (y : ℕ) → struck (m .edges .used) (withNewEdge m e y) ≡ struck (m .edges .used) (y ∷ [])
+  struck-wire : (y : ℕ) → struckFrom (m .edges .used) (withNewEdge m e y) ≡ struckFrom (m .edges .used) (y ∷ [])
   unfolding sifted
   struck-wire y = go (eqb y e) refl
     where
-      go : (b : Bool) → eqb y e ≡ b → struck (m .edges .used) (cond b (e ∷ m .edges .used ∷ []) (y ∷ [])) ≡ struck (m .edges .used) (y ∷ [])
+      go : (b : Bool) → eqb y e ≡ b → struckFrom (m .edges .used) (cond b (e ∷ m .edges .used ∷ []) (y ∷ [])) ≡ struckFrom (m .edges .used) (y ∷ [])
       go true q = rw (le-ltb (m .edges .used) (m .edges .used) (omega arith), eqb-true y e q)
       go false q = refl
 
@@ -141,7 +141,7 @@ module _ (m : Model) (e : ℕ) (t : Float) (he : e < m .edges .used) where
       go true q = refl
       go false q = absurd (false≢true q)
 
-  pub restored-split : Restored m (afterSplit m e t) (e ∷ []) struck
+  pub restored-split : Restored m (afterSplit m e t) (e ∷ []) struckFrom
   unfolding afterSplit extended changed
   restored-split =
       record {
@@ -163,7 +163,7 @@ module _ (m : Model) (e : ℕ) (t : Float) (he : e < m .edges .used) where
         shell-acorn-vertices = λ i h. refl;
         face-loops = λ i h. refl;
         loop-fins = λ i h. sifted-joined (λ j. ltb j (m .fins .used)) (withNew m e i) (loop m i .fins) (struck-fin i);
-        edge-fins = λ i h. ap (λ l. struck (m .fins .used) l) (edge-was-fins m e t i h);
+        edge-fins = λ i h. ap (λ l. struckFrom (m .fins .used) l) (edge-was-fins m e t i h);
         body-kind = λ i h. refl;
         region-body = λ i h. refl;
         region-solid = λ i h. refl;
@@ -184,7 +184,7 @@ module _ (m : Model) (e : ℕ) (t : Float) (he : e < m .edges .used) where
 
 -- ---- one after the other
 
-module _ (a b c : Model) (s r : List ℕ) (f : Restored a b s struck) (g : Restored b c r struck) where
+module _ (a b c : Model) (s r : List ℕ) (f : Restored a b s struckFrom) (g : Restored b c r struckFrom) where
   in-bodies : (i : ℕ) → i < a .bodies .used → i < b .bodies .used
   in-bodies i h = rw (f .bodies) h
 
@@ -222,7 +222,7 @@ module _ (a b c : Model) (s r : List ℕ) (f : Restored a b s struck) (g : Resto
           let old : (v : ℕ) × (a .vertices .used ≤ v) × (edge b i .end ≡ some v) = f .edge-end-split i h (member-front i s r q y) in
           (old .0, old .1, g .edge-end i (in-edges i h) y ∙ old .2)
 
-  pub restored-then : Restored a c (s ++ r) struck
+  pub restored-then : Restored a c (s ++ r) struckFrom
   restored-then =
       record {
         bodies = g .bodies ∙ f .bodies;
@@ -264,7 +264,7 @@ module _ (a b c : Model) (s r : List ℕ) (f : Restored a b s struck) (g : Resto
 
 -- ---- any sequence of splits, from any model
 
-pub splits-restore : (x : Limits) (m : Model) (l : List Cut) → Restored m (afterAll x m l) (splitEdges x m l) struck
+pub splits-restore : (x : Limits) (m : Model) (l : List Cut) → Restored m (afterAll x m l) (splitEdges x m l) struckFrom
 unfolding afterAll splitEdges
 splits-restore x m [] = restored-same m
 splits-restore x m (c ∷ l) = go (splitRefusal x m (c .edge) (c .fraction)) refl (splits-restore x (modelAfter x m (c .edge) (c .fraction)) l)
@@ -275,15 +275,15 @@ splits-restore x m (c ∷ l) = go (splitRefusal x m (c .edge) (c .fraction)) ref
     M : Model
     M = afterAll x (modelAfter x m (c .edge) (c .fraction)) l
 
-    go : (n : ℕ) → splitRefusal x m (c .edge) (c .fraction) ≡ n → Restored (modelAfter x m (c .edge) (c .fraction)) M S struck → Restored m M (cond (eqb n 0) (c .edge ∷ S) S) struck
+    go : (n : ℕ) → splitRefusal x m (c .edge) (c .fraction) ≡ n → Restored (modelAfter x m (c .edge) (c .fraction)) M S struckFrom → Restored m M (cond (eqb n 0) (c .edge ∷ S) S) struckFrom
     go zero h r =
         restored-then m (modelAfter x m (c .edge) (c .fraction)) M (c .edge ∷ []) S
         (rw (went-to x m (c .edge) (c .fraction) 0 h) (restored-split m (c .edge) (c .fraction) (accepted x m (c .edge) (c .fraction) h .0))) r
-    go (suc n) h r = rw (ne-eqb (suc n) 0 (λ z. omega arith)) (subst (λ k. Restored k M S struck) (went-to x m (c .edge) (c .fraction) (suc n) h) r)
+    go (suc n) h r = rw (ne-eqb (suc n) 0 (λ z. omega arith)) (subst (λ k. Restored k M S struckFrom) (went-to x m (c .edge) (c .fraction) (suc n) h) r)
 
 -- ---- where every stored id names a record, there is nothing to strike out of the starting lists
 
-pub restored-whole : (m after : Model) (split : List ℕ) → StoredIds m → Restored m after split struck → Restored m after split itself
+pub restored-whole : (m after : Model) (split : List ℕ) → StoredIds m → Restored m after split struckFrom → Restored m after split itself
 restored-whole m after split ids r =
     record {
       bodies = r .bodies;

@@ -21,8 +21,8 @@ sifted p [] = []
 sifted p (x ∷ l) = let rest = sifted p l in cond (p x) (x ∷ rest) rest
 
 -- a list without the ids from n on
-abbrev pub struck : ℕ → List ℕ → List ℕ
-struck n l = sifted (λ i. ltb i n) l
+abbrev pub struckFrom : ℕ → List ℕ → List ℕ
+struckFrom n l = sifted (λ i. ltb i n) l
 
 -- a list without the id n
 abbrev pub without : ℕ → List ℕ → List ℕ
@@ -55,14 +55,14 @@ pub record Restored (m after : Model) (split : List ℕ) (start : ℕ → List �
   pub curves : after .curves ≡ m .curves
   pub surfaces : after .surfaces ≡ m .surfaces
   -- "Striking out what was added gives back every stored list in its starting order"
-  pub body-regions : (i : ℕ) → i < m .bodies .used → struck (m .regions .used) (body after i .regions) ≡ start (m .regions .used) (body m i .regions)
-  pub region-shells : (i : ℕ) → i < m .regions .used → struck (m .shells .used) (region after i .shells) ≡ start (m .shells .used) (region m i .shells)
-  pub shell-faces : (i : ℕ) → i < m .shells .used → struck (m .faces .used) (shell after i .faces) ≡ start (m .faces .used) (shell m i .faces)
-  pub shell-wire-edges : (i : ℕ) → i < m .shells .used → struck (m .edges .used) (shell after i .wireEdges) ≡ start (m .edges .used) (shell m i .wireEdges)
-  pub shell-acorn-vertices : (i : ℕ) → i < m .shells .used → struck (m .vertices .used) (shell after i .acornVertices) ≡ start (m .vertices .used) (shell m i .acornVertices)
-  pub face-loops : (i : ℕ) → i < m .faces .used → struck (m .loops .used) (face after i .loops) ≡ start (m .loops .used) (face m i .loops)
-  pub loop-fins : (i : ℕ) → i < m .loops .used → struck (m .fins .used) (loop after i .fins) ≡ start (m .fins .used) (loop m i .fins)
-  pub edge-fins : (i : ℕ) → i < m .edges .used → struck (m .fins .used) (edge after i .fins) ≡ start (m .fins .used) (edge m i .fins)
+  pub body-regions : (i : ℕ) → i < m .bodies .used → struckFrom (m .regions .used) (body after i .regions) ≡ start (m .regions .used) (body m i .regions)
+  pub region-shells : (i : ℕ) → i < m .regions .used → struckFrom (m .shells .used) (region after i .shells) ≡ start (m .shells .used) (region m i .shells)
+  pub shell-faces : (i : ℕ) → i < m .shells .used → struckFrom (m .faces .used) (shell after i .faces) ≡ start (m .faces .used) (shell m i .faces)
+  pub shell-wire-edges : (i : ℕ) → i < m .shells .used → struckFrom (m .edges .used) (shell after i .wireEdges) ≡ start (m .edges .used) (shell m i .wireEdges)
+  pub shell-acorn-vertices : (i : ℕ) → i < m .shells .used → struckFrom (m .vertices .used) (shell after i .acornVertices) ≡ start (m .vertices .used) (shell m i .acornVertices)
+  pub face-loops : (i : ℕ) → i < m .faces .used → struckFrom (m .loops .used) (face after i .loops) ≡ start (m .loops .used) (face m i .loops)
+  pub loop-fins : (i : ℕ) → i < m .loops .used → struckFrom (m .fins .used) (loop after i .fins) ≡ start (m .fins .used) (loop m i .fins)
+  pub edge-fins : (i : ℕ) → i < m .edges .used → struckFrom (m .fins .used) (edge after i .fins) ≡ start (m .fins .used) (edge m i .fins)
   -- every other field is as it was
   pub precision : after .precision ≡ m .precision
   pub body-kind : (i : ℕ) → i < m .bodies .used → body after i .kind ≡ body m i .kind

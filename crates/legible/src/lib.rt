@@ -12,7 +12,7 @@ ghost use Prim.Native.Nat.{_+_, _*_, _<_, _≤_};
 ghost use lib.ListN.{length};
 ghost use Rattle.model.specs.Readable.{roomOk, countsOk, tableOk, tablesOk, lentOk, sizedOk, readable};
 ghost use Rattle.model.specs.Fit.{Sized};
-ghost use Rattle.model.specs.Rows.{row, Rows, rowsOk};
+ghost use Rattle.model.specs.TableRows.{row, TableRows, rowsOk};
 
 // 01's largest tables.
 const LARGEST: [usize; 10] = [64, 128, 128, 512, 512, 4096, 2048, 2048, 2048, 512];
@@ -38,7 +38,7 @@ fn reals_row(x: &[f64], n: usize, i: usize) -> &[f64]
 
 // The n records of table k whose words and floats these are.
 fn rows_ok(k: usize, n: usize, w: &[u32], x: &[f64]) -> bool
-    requires { ⌜ Rows k n (now w) (now x) ⌝ }
+    requires { ⌜ TableRows k n (now w) (now x) ⌝ }
     ensures { λ r. ⌜ r ≡ rowsOk k n (now (w .entry)) (now (x .entry)) ⌝ }
 {
     let words = word_stride(k);

@@ -8,10 +8,10 @@ use Rattle.vectors.specs.declared.vector.Point3.{Point3}
 use Rattle.geometry.specs.declared.tolerance.Tolerance.the-variants.{Own, Session}
 use Rattle.store.specs.declared.Carrier.{Carrier}
 use Rattle.store.specs.declared.Carrier.the-variants as Carriers
-use Rattle.meaning.specs.Floats.{_/ᶠ_, real}
+use Rattle.meaning.specs.Floats.{_/ᶠ_, floatOf}
 use Rattle.meaning.specs.Model.{sheet, solid, positive, negative, Body, Region, Shell, Face, Loop, Fin, Edge, Vertex, Table, Model, Limits}
 use Rattle.meaning.specs.Edits.{edited}
-use Rattle.meaning.specs.Stone.{milli, at, way, line, plane, right, up, tableOf, vertexAt, edgeOf, finOf, loopOf, shellOf, regionOf, corner}
+use Rattle.meaning.specs.Stone.{milli, at, way, line, plane, right, up, tableOf, vertexAt, anEdge, aFin, aLoop, aShell, aRegion, corner}
 
 -- ---- the blade: a sheet of one face, whose loop runs along the edge A, from (0,0,0) to (4,0,0), and back
 
@@ -23,12 +23,12 @@ blade =
     record {
       precision = milli;
       bodies = tableOf (record { kind = sheet; regions = 0 ∷ [] }) [];
-      regions = tableOf (regionOf 0 false (0 ∷ [])) [];
-      shells = tableOf (shellOf 0 (0 ∷ [])) [];
+      regions = tableOf (aRegion 0 false (0 ∷ [])) [];
+      shells = tableOf (aShell 0 (0 ∷ [])) [];
       faces = tableOf bladeFace [];
-      loops = tableOf (loopOf 0 (0 ∷ 1 ∷ [])) [];
-      fins = tableOf (finOf 0 0 positive) (finOf 0 0 negative ∷ []);
-      edges = tableOf (edgeOf 0 0 1 (0 ∷ 1 ∷ [])) [];
+      loops = tableOf (aLoop 0 (0 ∷ 1 ∷ [])) [];
+      fins = tableOf (aFin 0 0 positive) (aFin 0 0 negative ∷ []);
+      edges = tableOf (anEdge 0 0 1 (0 ∷ 1 ∷ [])) [];
       vertices = tableOf (vertexAt (corner 0)) (vertexAt (corner 1) ∷ []);
       curves = tableOf (line (corner 0) right) [];
       surfaces = tableOf (plane (corner 0) up) [];
@@ -86,11 +86,11 @@ withSurface i r m = record { precision = m .precision; bodies = m .bodies; regio
 -- ---- the blade changed
 
 abbrev pub quarter : Float
-quarter = real 1 /ᶠ real 4
+quarter = floatOf 1 /ᶠ floatOf 4
 
 -- the blade's body, and the same as a solid
-abbrev pub bodyOf : List ℕ → Model → Model
-bodyOf l = withBody 0 (record { kind = sheet; regions = l })
+abbrev pub regionsAre : List ℕ → Model → Model
+regionsAre l = withBody 0 (record { kind = sheet; regions = l })
 
 abbrev pub asSolid : Model → Model
 asSolid = withBody 0 (record { kind = solid; regions = 0 ∷ [] })
@@ -130,7 +130,7 @@ abbrev pub endAt : Point3 → Model → Model
 endAt p = withVertex 1 (vertexAt p)
 
 abbrev pub onAxis : Float → Point3
-onAxis x = at x (real 0) (real 0)
+onAxis x = at x (floatOf 0) (floatOf 0)
 
 abbrev pub otherCurve : Model → Model
 otherCurve = withCurve 0 Carriers.Other
@@ -145,11 +145,11 @@ tolerantEdge t = withEdge 0 (record { fins = 0 ∷ 1 ∷ []; start = some 0; end
 -- an edge from (100,0,0) to (103,4,0) on an upright plane, with the tolerance 2^-48: both ends are on the plane, and what lies between is rounded
 abbrev pub askew : Model
 askew =
-    tolerantEdge (real 1 /ᶠ real (2 ^ 48))
-    (startAt (onAxis (real 100))
-    (endAt (at (real 103) (real 4) (real 0))
-    (withCurve 0 (line (onAxis (real 100)) (way (real 3 /ᶠ real 5) (real 4 /ᶠ real 5) (real 0)))
-    (withSurface 0 (plane (onAxis (real 100)) (way (real 4 /ᶠ real 5) (neg (real 3 /ᶠ real 5)) (real 0))) blade))))
+    tolerantEdge (floatOf 1 /ᶠ floatOf (2 ^ 48))
+    (startAt (onAxis (floatOf 100))
+    (endAt (at (floatOf 103) (floatOf 4) (floatOf 0))
+    (withCurve 0 (line (onAxis (floatOf 100)) (way (floatOf 3 /ᶠ floatOf 5) (floatOf 4 /ᶠ floatOf 5) (floatOf 0)))
+    (withSurface 0 (plane (onAxis (floatOf 100)) (way (floatOf 4 /ᶠ floatOf 5) (neg (floatOf 3 /ᶠ floatOf 5)) (floatOf 0))) blade))))
 
 -- tables of so many fins, edges, vertices; lists of so many wire edges, fins of a loop, fins of an edge
 abbrev pub room : ℕ → ℕ → ℕ → ℕ → ℕ → ℕ → Limits

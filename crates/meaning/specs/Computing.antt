@@ -15,7 +15,7 @@ use Rattle.meaning.specs.Walks.{faceWalk, facesRefusal, edgeWalk, edgesR
 use Rattle.meaning.specs.Inquire.{flatFace, straightEdge, requirePolyhedral, grown, boxOf, boxRefusal, solidSides, sideRefusal, sidesRefusal, volumeRefusal, fan, polygonVolume, sideVolume, sumVolumes}
 use Rattle.meaning.specs.Split.{lo, hi, parameter, splitPoint, test7, test8, test9, test10, onPlane, test11-fin, test11-fins, test12, test13, boundsRefusal, splitRefusal, afterSplit, modelAfter, afterAll}
 use Rattle.meaning.specs.Faults.{faultOn, geometryError, curveTest, pointOnSurface, endTests, sampleAt, sampleTest, sampleTests, carried, finGeometry, finFindings, opens, loopFindings, faceFindings, shellFindings, regionFindings, manifold, manifoldEdge, manifoldEdges, findings, faultsOf, skippedOf, reportOf, checkRefusal, sawable}
-use Rattle.meaning.specs.Formed.{tablesOk, idsOk, listedOk, closed, loopOk, wellFormed}
+use Rattle.meaning.specs.Formed.{tablesPass, idsOk, listedOk, closed, loopCloses, wellFormed}
 
 unfoldable pub computing : ℕ
 unfolding toBits ofBits add sub mul div neg round ofInt isNan lt le eq nextUp nextDown pointI addI subI mulI sqrI signI finitePoint minus along scaledV dotV
@@ -25,5 +25,5 @@ unfolding toBits ofBits add sub mul div neg round ofInt isNan lt le eq nextUp ne
     sideRefusal sidesRefusal volumeRefusal fan polygonVolume sideVolume sumVolumes lo hi parameter splitPoint test7 test8 test9 test10 onPlane
     test11-fin test11-fins test12 test13 boundsRefusal splitRefusal afterSplit modelAfter afterAll faultOn geometryError curveTest pointOnSurface
     endTests sampleAt sampleTest sampleTests carried finGeometry finFindings opens loopFindings faceFindings shellFindings regionFindings manifold
-    manifoldEdge manifoldEdges findings faultsOf skippedOf reportOf checkRefusal sawable tablesOk idsOk listedOk closed loopOk wellFormed
+    manifoldEdge manifoldEdges findings faultsOf skippedOf reportOf checkRefusal sawable tablesPass idsOk listedOk closed loopCloses wellFormed
 computing = 0

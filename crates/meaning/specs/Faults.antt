@@ -20,7 +20,7 @@ use Rattle.store.specs.Queries.{theLine, thePlane}
 use Rattle.queried.specs.Queries.{evalRefusal, projectRefusal, distanceRefusal}
 use Rattle.signs.specs.Signs.{offCurveS}
 use Rattle.meaning.specs.Lists.{run, member, joined, rotated, the, isSome, is, same}
-use Rattle.meaning.specs.Floats.{_/ᶠ_, real}
+use Rattle.meaning.specs.Floats.{_/ᶠ_, floatOf}
 use Rattle.meaning.specs.Model.{Model, Sense, positive, negative, has, body, region, shell, face, loop, fin, edge, vertex, pointOf, curve, surface}
 use Rattle.meaning.specs.Refuse.{Answer, answered}
 use Rattle.meaning.specs.Walks.{edgeWalk, edgesRefusal, edgeVertices, endsOf, readableFin}
@@ -153,7 +153,7 @@ projected m c (some v) = has (m .vertices) v && eqb (projectRefusal (curve m c) 
 
 -- "Sample k of n is t0 + ((t1 - t0)·k)/(n + 1)"
 unfoldable pub sampleAt : Float → Float → ℕ → ℕ → Float
-sampleAt t0 t1 n k = t0 +ᶠ (t1 -ᶠ t0) *ᶠ real k /ᶠ real (suc n)
+sampleAt t0 t1 n k = t0 +ᶠ (t1 -ᶠ t0) *ᶠ floatOf k /ᶠ floatOf (suc n)
 
 unfoldable pub sampleTest : Model → ℕ → ℕ → ℕ → Float → List Finding
 sampleTest m e c s t =

@@ -11,8 +11,8 @@ abbrev pub _/ᶠ_ : Float → Float → Float
 x /ᶠ y = div binary64 x y
 
 -- a whole number as a float (Rust's `as f64`)
-abbrev pub real : ℕ → Float
-real n = ofInt binary64 (pos n)
+abbrev pub floatOf : ℕ → Float
+floatOf n = ofInt binary64 (pos n)
 
 -- 01, "equal zeros keep the first met": of two that are equal, the first
 abbrev pub lesser : Float → Float → Float

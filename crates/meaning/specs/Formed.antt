@@ -40,8 +40,8 @@ tableTests x m =
     ∷ allBelow (λ i. toleranceOk (vertex m i .tolerance)) (m .vertices .used)
     ∷ []
 
-unfoldable pub tablesOk : Limits → Model → Bool
-tablesOk x m = every (tableTests x m)
+unfoldable pub tablesPass : Limits → Model → Bool
+tablesPass x m = every (tableTests x m)
 
 -- the same as facts
 pub record Readable (x : Limits) (m : Model) : Type 0 where
@@ -143,25 +143,25 @@ unfoldable pub listedOk : ℕ → ℕ → (ℕ → List ℕ) → (ℕ → ℕ �
 listedOk parents children list names = allBelow (λ p. allBelow (λ c. eqb (count c (list p)) (bit (names c p))) children) parents
 
 -- "Each region, shell, loop and fin is listed exactly once, by the parent it names"
-abbrev pub regionOf : Model → ℕ → ℕ → Bool
-regionOf m r b = eqb (region m r .body) b
+abbrev pub regionNames : Model → ℕ → ℕ → Bool
+regionNames m r b = eqb (region m r .body) b
 
-abbrev pub shellOf : Model → ℕ → ℕ → Bool
-shellOf m s r = eqb (shell m s .region) r
+abbrev pub shellNames : Model → ℕ → ℕ → Bool
+shellNames m s r = eqb (shell m s .region) r
 
-abbrev pub loopOf : Model → ℕ → ℕ → Bool
-loopOf m l f = eqb (loop m l .face) f
+abbrev pub loopNames : Model → ℕ → ℕ → Bool
+loopNames m l f = eqb (loop m l .face) f
 
-abbrev pub finOf : Model → ℕ → ℕ → Bool
-finOf m i l = eqb (fin m i .owner) l
+abbrev pub finNames : Model → ℕ → ℕ → Bool
+finNames m i l = eqb (fin m i .owner) l
 
 -- "A shell lists a face once exactly when it is the face's front or back"
-abbrev pub faceOf : Model → ℕ → ℕ → Bool
-faceOf m f s = is (face m f .front) s || is (face m f .back) s
+abbrev pub faceNames : Model → ℕ → ℕ → Bool
+faceNames m f s = is (face m f .front) s || is (face m f .back) s
 
 -- "Every fin is listed once by its edge, and an edge lists only fins naming it"
-abbrev pub finOn : Model → ℕ → ℕ → Bool
-finOn m i e = eqb (fin m i .edge) e
+abbrev pub finNamesEdge : Model → ℕ → ℕ → Bool
+finNamesEdge m i e = eqb (fin m i .edge) e
 
 -- ---- "No loop is empty, and every fin ends where the next starts"
 
@@ -170,21 +170,21 @@ closed m [] l = true
 closed m (i ∷ k) [] = true
 closed m (i ∷ k) (j ∷ l) = meetsNext m i j && closed m k l
 
-unfoldable pub loopOk : Model → List ℕ → Bool
-loopOk m fins = not (eqb (length fins) 0) && closed m fins (rotated fins)
+unfoldable pub loopCloses : Model → List ℕ → Bool
+loopCloses m fins = not (eqb (length fins) 0) && closed m fins (rotated fins)
 
 -- ---- all sentences, as facts
 
 pub record WellFormed (x : Limits) (m : Model) : Type 0 where
   pub tables : Readable x m
   pub ids : StoredIds m
-  pub regions : Listed (m .bodies .used) (m .regions .used) (λ b. body m b .regions) (regionOf m)
-  pub shells : Listed (m .regions .used) (m .shells .used) (λ r. region m r .shells) (shellOf m)
-  pub loops : Listed (m .faces .used) (m .loops .used) (λ f. face m f .loops) (loopOf m)
-  pub fins : Listed (m .loops .used) (m .fins .used) (λ l. loop m l .fins) (finOf m)
-  pub faces : Listed (m .shells .used) (m .faces .used) (λ s. shell m s .faces) (faceOf m)
-  pub edges : Listed (m .edges .used) (m .fins .used) (λ e. edge m e .fins) (finOn m)
-  pub closes : (l : ℕ) → l < m .loops .used → loopOk m (loop m l .fins) ≡ true
+  pub regions : Listed (m .bodies .used) (m .regions .used) (λ b. body m b .regions) (regionNames m)
+  pub shells : Listed (m .regions .used) (m .shells .used) (λ r. region m r .shells) (shellNames m)
+  pub loops : Listed (m .faces .used) (m .loops .used) (λ f. face m f .loops) (loopNames m)
+  pub fins : Listed (m .loops .used) (m .fins .used) (λ l. loop m l .fins) (finNames m)
+  pub faces : Listed (m .shells .used) (m .faces .used) (λ s. shell m s .faces) (faceNames m)
+  pub edges : Listed (m .edges .used) (m .fins .used) (λ e. edge m e .fins) (finNamesEdge m)
+  pub closes : (l : ℕ) → l < m .loops .used → loopCloses m (loop m l .fins) ≡ true
   -- "No shell repeats a wire edge"
   pub wires : (s e : ℕ) → s < m .shells .used → count e (shell m s .wireEdges) ≤ 1
 
@@ -196,15 +196,15 @@ wiresOk l = all (λ e. leb (count e l) 1) l
 
 abbrev pub formedTests : Limits → Model → List Bool
 formedTests x m =
-    tablesOk x m
+    tablesPass x m
     ∷ idsOk m
-    ∷ listedOk (m .bodies .used) (m .regions .used) (λ b. body m b .regions) (regionOf m)
-    ∷ listedOk (m .regions .used) (m .shells .used) (λ r. region m r .shells) (shellOf m)
-    ∷ listedOk (m .faces .used) (m .loops .used) (λ f. face m f .loops) (loopOf m)
-    ∷ listedOk (m .loops .used) (m .fins .used) (λ l. loop m l .fins) (finOf m)
-    ∷ listedOk (m .shells .used) (m .faces .used) (λ s. shell m s .faces) (faceOf m)
-    ∷ listedOk (m .edges .used) (m .fins .used) (λ e. edge m e .fins) (finOn m)
-    ∷ allBelow (λ l. loopOk m (loop m l .fins)) (m .loops .used)
+    ∷ listedOk (m .bodies .used) (m .regions .used) (λ b. body m b .regions) (regionNames m)
+    ∷ listedOk (m .regions .used) (m .shells .used) (λ r. region m r .shells) (shellNames m)
+    ∷ listedOk (m .faces .used) (m .loops .used) (λ f. face m f .loops) (loopNames m)
+    ∷ listedOk (m .loops .used) (m .fins .used) (λ l. loop m l .fins) (finNames m)
+    ∷ listedOk (m .shells .used) (m .faces .used) (λ s. shell m s .faces) (faceNames m)
+    ∷ listedOk (m .edges .used) (m .fins .used) (λ e. edge m e .fins) (finNamesEdge m)
+    ∷ allBelow (λ l. loopCloses m (loop m l .fins)) (m .loops .used)
     ∷ allBelow (λ s. wiresOk (shell m s .wireEdges)) (m .shells .used)
     ∷ []
 

@@ -12,7 +12,7 @@ use Rattle.vectors.specs.Space.{_+ᶠ_, finitePoint, minus, dotV, crossV}
 use Rattle.geometry.specs.Refuse.{_unless_, _then_}
 use Rattle.store.specs.Queries.{lineRefusal, planeRefusal}
 use Rattle.meaning.specs.Lists.{all, joined, the, isSome, is}
-use Rattle.meaning.specs.Floats.{_/ᶠ_, real, lesser, greater, toVec}
+use Rattle.meaning.specs.Floats.{_/ᶠ_, floatOf, lesser, greater, toVec}
 use Rattle.meaning.specs.Model.{Model, BodyKind, acorn, wire, sheet, solid, general, has, body, region, shell, face, loop, edge, pointOf, curve, surface}
 use Rattle.meaning.specs.Refuse.{Answer, answered, firstOf, _if_}
 use Rattle.meaning.specs.Walks.{faceWalk, edgeWalk, vertexWalk, facesRefusal, edgesRefusal, verticesRefusal, endsOf}
@@ -146,7 +146,7 @@ fan o acc (p ∷ q ∷ l) = fan o (acc +ᶠ dotV (toVec o) (crossV (minus p o) (
 -- `polygon_volume`: 01, "each face divided by six"
 unfoldable pub polygonVolume : List Point3 → Float
 polygonVolume [] = zeroF
-polygonVolume (o ∷ l) = fan o zeroF l /ᶠ real 6
+polygonVolume (o ∷ l) = fan o zeroF l /ᶠ floatOf 6
 
 -- 01, "a front side reverses the points"
 unfoldable pub sideVolume : Model → Side → Float

@@ -19,7 +19,7 @@ use Rattle.geometry.specs.Geometry.{linePoint, nearest, effective}
 use Rattle.store.specs.Queries.{lineRefusal, planeRefusal, theLine, thePlane}
 use Rattle.signs.specs.Signs.{increasingS, spanS, apartS, offPlaneS}
 use Rattle.meaning.specs.Lists.{run, all, allBelow, member, count, countIf, place, joined, the, isSome}
-use Rattle.meaning.specs.Floats.{real}
+use Rattle.meaning.specs.Floats.{floatOf}
 use Rattle.meaning.specs.Model.{Model, Limits, Sense, positive, negative, Shell, Loop, Fin, Edge, has, extended, changed, shell, face, loop, fin, edge, pointOf, curve, surface}
 use Rattle.meaning.specs.Refuse.{Answer, answered, firstOf, firstRefusal, _if_}
 
@@ -59,7 +59,7 @@ splitPoint m e t = linePoint (carrier m e) (parameter m e t)
 
 -- 1. "Fraction not finite, ≤ 0 or ≥ 1: 1"
 abbrev pub test1 : Float → ℕ
-test1 t = 1 unless finite t && lt zeroF t && lt t (real 1)
+test1 t = 1 unless finite t && lt zeroF t && lt t (floatOf 1)
 
 -- 2. "Edge missing: 2"
 abbrev pub test2 : Model → ℕ → ℕ

@@ -10,7 +10,7 @@ use Rattle.vectors.specs.declared.vector.Vec3.{Vec3}
 use Rattle.geometry.specs.declared.tolerance.Tolerance.the-variants.{Session}
 use Rattle.store.specs.declared.Carrier.{Carrier}
 use Rattle.store.specs.declared.Carrier.the-variants as Carriers
-use Rattle.meaning.specs.Floats.{real}
+use Rattle.meaning.specs.Floats.{floatOf}
 use Rattle.meaning.specs.Model.{solid, Sense, positive, negative, Region, Shell, Face, Loop, Fin, Edge, Vertex, Table, Model}
 
 -- ---- floats, points, carriers
@@ -32,22 +32,22 @@ abbrev pub plane : Point3 → Vec3 → Carrier
 plane o n = Carriers.Plane (record { origin = o; normal = n })
 
 abbrev pub right : Vec3
-right = way (real 1) (real 0) (real 0)
+right = way (floatOf 1) (floatOf 0) (floatOf 0)
 
 abbrev pub left : Vec3
-left = way (neg (real 1)) (real 0) (real 0)
+left = way (neg (floatOf 1)) (floatOf 0) (floatOf 0)
 
 abbrev pub aft : Vec3
-aft = way (real 0) (real 1) (real 0)
+aft = way (floatOf 0) (floatOf 1) (floatOf 0)
 
 abbrev pub fore : Vec3
-fore = way (real 0) (neg (real 1)) (real 0)
+fore = way (floatOf 0) (neg (floatOf 1)) (floatOf 0)
 
 abbrev pub up : Vec3
-up = way (real 0) (real 0) (real 1)
+up = way (floatOf 0) (floatOf 0) (floatOf 1)
 
 abbrev pub down : Vec3
-down = way (real 0) (real 0) (neg (real 1))
+down = way (floatOf 0) (floatOf 0) (neg (floatOf 1))
 
 -- ---- records
 
@@ -59,20 +59,20 @@ abbrev pub vertexAt : Point3 → Vertex
 vertexAt p = record { point = p; tolerance = Session }
 
 -- curve, start, end, fins
-abbrev pub edgeOf : ℕ → ℕ → ℕ → List ℕ → Edge
-edgeOf c a b l = record { fins = l; start = some a; end = some b; curve = some c; tolerance = Session }
+abbrev pub anEdge : ℕ → ℕ → ℕ → List ℕ → Edge
+anEdge c a b l = record { fins = l; start = some a; end = some b; curve = some c; tolerance = Session }
 
-abbrev pub finOf : ℕ → ℕ → Sense → Fin
-finOf l e s = record { owner = l; edge = e; sense = s; pcurve = false }
+abbrev pub aFin : ℕ → ℕ → Sense → Fin
+aFin l e s = record { owner = l; edge = e; sense = s; pcurve = false }
 
-abbrev pub loopOf : ℕ → List ℕ → Loop
-loopOf f l = record { face = f; fins = l }
+abbrev pub aLoop : ℕ → List ℕ → Loop
+aLoop f l = record { face = f; fins = l }
 
-abbrev pub shellOf : ℕ → List ℕ → Shell
-shellOf r l = record { region = r; faces = l; wireEdges = []; acornVertices = [] }
+abbrev pub aShell : ℕ → List ℕ → Shell
+aShell r l = record { region = r; faces = l; wireEdges = []; acornVertices = [] }
 
-abbrev pub regionOf : ℕ → Bool → List ℕ → Region
-regionOf b s l = record { body = b; solid = s; shells = l }
+abbrev pub aRegion : ℕ → Bool → List ℕ → Region
+aRegion b s l = record { body = b; solid = s; shells = l }
 
 -- ---- 01, "A box from (0,0,0) to (4,3,2), all edges running along an increasing axis, precision 0.001, no own tolerances. Edge A runs
 -- (0,0,0) to (4,0,0)". Edge 0 is A. Corner i is at x = 4 where i has bit 0, y = 3 for bit 1, z = 2 for bit 2
@@ -80,17 +80,17 @@ regionOf b s l = record { body = b; solid = s; shells = l }
 abbrev pub corner : ℕ → Point3
 corner i =
     getD
-    (at (real 0) (real 0) (real 0)
-    ∷ at (real 4) (real 0) (real 0)
-    ∷ at (real 0) (real 3) (real 0)
-    ∷ at (real 4) (real 3) (real 0)
-    ∷ at (real 0) (real 0) (real 2)
-    ∷ at (real 4) (real 0) (real 2)
-    ∷ at (real 0) (real 3) (real 2)
-    ∷ at (real 4) (real 3) (real 2)
+    (at (floatOf 0) (floatOf 0) (floatOf 0)
+    ∷ at (floatOf 4) (floatOf 0) (floatOf 0)
+    ∷ at (floatOf 0) (floatOf 3) (floatOf 0)
+    ∷ at (floatOf 4) (floatOf 3) (floatOf 0)
+    ∷ at (floatOf 0) (floatOf 0) (floatOf 2)
+    ∷ at (floatOf 4) (floatOf 0) (floatOf 2)
+    ∷ at (floatOf 0) (floatOf 3) (floatOf 2)
+    ∷ at (floatOf 4) (floatOf 3) (floatOf 2)
     ∷ [])
     i
-    (at (real 0) (real 0) (real 0))
+    (at (floatOf 0) (floatOf 0) (floatOf 0))
 
 -- the front looks into the void's shell 0, the back into the material's shell 1
 abbrev pub stoneFace : ℕ → Face
@@ -104,39 +104,39 @@ stone =
     record {
       precision = milli;
       bodies = tableOf (record { kind = solid; regions = 0 ∷ 1 ∷ [] }) [];
-      regions = tableOf (regionOf 0 false (0 ∷ [])) (regionOf 0 true (1 ∷ []) ∷ []);
-      shells = tableOf (shellOf 0 (0 ∷ 1 ∷ 2 ∷ 3 ∷ 4 ∷ 5 ∷ [])) (shellOf 1 (0 ∷ 1 ∷ 2 ∷ 3 ∷ 4 ∷ 5 ∷ []) ∷ []);
+      regions = tableOf (aRegion 0 false (0 ∷ [])) (aRegion 0 true (1 ∷ []) ∷ []);
+      shells = tableOf (aShell 0 (0 ∷ 1 ∷ 2 ∷ 3 ∷ 4 ∷ 5 ∷ [])) (aShell 1 (0 ∷ 1 ∷ 2 ∷ 3 ∷ 4 ∷ 5 ∷ []) ∷ []);
       faces = tableOf (stoneFace 0) (stoneFace 1 ∷ stoneFace 2 ∷ stoneFace 3 ∷ stoneFace 4 ∷ stoneFace 5 ∷ []);
       loops =
-          tableOf (loopOf 0 (0 ∷ 1 ∷ 2 ∷ 3 ∷ []))
-          (loopOf 1 (4 ∷ 5 ∷ 6 ∷ 7 ∷ [])
-          ∷ loopOf 2 (8 ∷ 9 ∷ 10 ∷ 11 ∷ [])
-          ∷ loopOf 3 (12 ∷ 13 ∷ 14 ∷ 15 ∷ [])
-          ∷ loopOf 4 (16 ∷ 17 ∷ 18 ∷ 19 ∷ [])
-          ∷ loopOf 5 (20 ∷ 21 ∷ 22 ∷ 23 ∷ [])
+          tableOf (aLoop 0 (0 ∷ 1 ∷ 2 ∷ 3 ∷ []))
+          (aLoop 1 (4 ∷ 5 ∷ 6 ∷ 7 ∷ [])
+          ∷ aLoop 2 (8 ∷ 9 ∷ 10 ∷ 11 ∷ [])
+          ∷ aLoop 3 (12 ∷ 13 ∷ 14 ∷ 15 ∷ [])
+          ∷ aLoop 4 (16 ∷ 17 ∷ 18 ∷ 19 ∷ [])
+          ∷ aLoop 5 (20 ∷ 21 ∷ 22 ∷ 23 ∷ [])
           ∷ []);
       fins =
-          tableOf (finOf 0 4 positive)
-          (finOf 0 1 positive ∷ finOf 0 5 negative ∷ finOf 0 0 negative
-          ∷ finOf 1 2 positive ∷ finOf 1 7 positive ∷ finOf 1 3 negative ∷ finOf 1 6 negative
-          ∷ finOf 2 0 positive ∷ finOf 2 9 positive ∷ finOf 2 2 negative ∷ finOf 2 8 negative
-          ∷ finOf 3 10 positive ∷ finOf 3 3 positive ∷ finOf 3 11 negative ∷ finOf 3 1 negative
-          ∷ finOf 4 8 positive ∷ finOf 4 6 positive ∷ finOf 4 10 negative ∷ finOf 4 4 negative
-          ∷ finOf 5 5 positive ∷ finOf 5 11 positive ∷ finOf 5 7 negative ∷ finOf 5 9 negative
+          tableOf (aFin 0 4 positive)
+          (aFin 0 1 positive ∷ aFin 0 5 negative ∷ aFin 0 0 negative
+          ∷ aFin 1 2 positive ∷ aFin 1 7 positive ∷ aFin 1 3 negative ∷ aFin 1 6 negative
+          ∷ aFin 2 0 positive ∷ aFin 2 9 positive ∷ aFin 2 2 negative ∷ aFin 2 8 negative
+          ∷ aFin 3 10 positive ∷ aFin 3 3 positive ∷ aFin 3 11 negative ∷ aFin 3 1 negative
+          ∷ aFin 4 8 positive ∷ aFin 4 6 positive ∷ aFin 4 10 negative ∷ aFin 4 4 negative
+          ∷ aFin 5 5 positive ∷ aFin 5 11 positive ∷ aFin 5 7 negative ∷ aFin 5 9 negative
           ∷ []);
       edges =
-          tableOf (edgeOf 0 0 1 (3 ∷ 8 ∷ []))
-          (edgeOf 1 2 3 (1 ∷ 15 ∷ [])
-          ∷ edgeOf 2 4 5 (4 ∷ 10 ∷ [])
-          ∷ edgeOf 3 6 7 (6 ∷ 13 ∷ [])
-          ∷ edgeOf 4 0 2 (0 ∷ 19 ∷ [])
-          ∷ edgeOf 5 1 3 (2 ∷ 20 ∷ [])
-          ∷ edgeOf 6 4 6 (7 ∷ 17 ∷ [])
-          ∷ edgeOf 7 5 7 (5 ∷ 22 ∷ [])
-          ∷ edgeOf 8 0 4 (11 ∷ 16 ∷ [])
-          ∷ edgeOf 9 1 5 (9 ∷ 23 ∷ [])
-          ∷ edgeOf 10 2 6 (12 ∷ 18 ∷ [])
-          ∷ edgeOf 11 3 7 (14 ∷ 21 ∷ [])
+          tableOf (anEdge 0 0 1 (3 ∷ 8 ∷ []))
+          (anEdge 1 2 3 (1 ∷ 15 ∷ [])
+          ∷ anEdge 2 4 5 (4 ∷ 10 ∷ [])
+          ∷ anEdge 3 6 7 (6 ∷ 13 ∷ [])
+          ∷ anEdge 4 0 2 (0 ∷ 19 ∷ [])
+          ∷ anEdge 5 1 3 (2 ∷ 20 ∷ [])
+          ∷ anEdge 6 4 6 (7 ∷ 17 ∷ [])
+          ∷ anEdge 7 5 7 (5 ∷ 22 ∷ [])
+          ∷ anEdge 8 0 4 (11 ∷ 16 ∷ [])
+          ∷ anEdge 9 1 5 (9 ∷ 23 ∷ [])
+          ∷ anEdge 10 2 6 (12 ∷ 18 ∷ [])
+          ∷ anEdge 11 3 7 (14 ∷ 21 ∷ [])
           ∷ []);
       vertices =
           tableOf (cornerVertex 0)

@@ -7,14 +7,14 @@ use mathlib.Core.List.{List, [], _∷_, map}
 use mathlib.Core.Option.{none, some}
 use lib.Ieee.{Float, binary64, neg, toBits}
 use Rattle.geometry.specs.declared.tolerance.Tolerance.the-variants.{Own}
-use Rattle.meaning.specs.Floats.{_/ᶠ_, real}
+use Rattle.meaning.specs.Floats.{_/ᶠ_, floatOf}
 use Rattle.meaning.specs.Model.{Model}
 use Rattle.meaning.specs.Refuse.{given}
 use Rattle.meaning.specs.Walks.{faceWalk, edgeWalk, vertexWalk}
 use Rattle.meaning.specs.Inquire.{boxOf, sideVolume}
 use Rattle.meaning.specs.Split.{test10, onPlane, test11-fin, test13, boundsRefusal, afterSplit, modelAfter}
 use Rattle.meaning.specs.Faults.{Finding, skipped, fault, sampleAt, curveTest, findings, checkRefusal, fitToSaw}
-use Rattle.meaning.specs.Stone.{at, up, edgeOf, loopOf, stone}
+use Rattle.meaning.specs.Stone.{at, up, anEdge, aLoop, stone}
 use Rattle.meaning.specs.Blade.{blade, withLoop, withVertex, quarter, onAxis, asSolid, edgeIs, endsAre, finsAre, faceIs, shellIs, otherCurve, otherSurface, tolerantEdge, askew, room}
 use Rattle.meaning.specs.Computing.{computing}
 
@@ -41,7 +41,7 @@ abbrev bits : Float → ℕ
 bits x = toBits binary64 x
 
 -- of equal zeros the first met
-first-zero : bits (boxOf (at (real 0) (neg (real 0)) (real 0) ∷ onAxis (real 4) ∷ []) .min .y) ≡ 0x8000_0000_0000_0000
+first-zero : bits (boxOf (at (floatOf 0) (neg (floatOf 0)) (floatOf 0) ∷ onAxis (floatOf 4) ∷ []) .min .y) ≡ 0x8000_0000_0000_0000
 unfolding computing
 first-zero = refl
 
@@ -58,17 +58,17 @@ unfolding computing
 ends-before-curve = refl
 
 -- 10: near the end
-near-the-end : test10 blade 0 (real 4095 /ᶠ real 4096) ≡ 4
+near-the-end : test10 blade 0 (floatOf 4095 /ᶠ floatOf 4096) ≡ 4
 unfolding computing
 near-the-end = refl
 
 -- 11: half the precision is the edge's tolerance, so that 0.0009 is off the plane
-half-precision : onPlane blade 0 (record { origin = at (real 0) (real 0) (real 1 /ᶠ real 1100); normal = up }) (real 0) ≡ 1
+half-precision : onPlane blade 0 (record { origin = at (floatOf 0) (floatOf 0) (floatOf 1 /ᶠ floatOf 1100); normal = up }) (floatOf 0) ≡ 1
 unfolding computing
 half-precision = refl
 
 -- 11: between two ends on the plane
-between-the-ends : test11-fin askew 0 (real 1 /ᶠ real 5) 0 ≡ 1
+between-the-ends : test11-fin askew 0 (floatOf 1 /ᶠ floatOf 5) 0 ≡ 1
 unfolding computing
 between-the-ends = refl
 
@@ -93,7 +93,7 @@ unfolding computing
 new-wire-edge-after = refl
 
 -- the old edge keeps the start, the new one has the end and both new fins
-halves : halved .edges .slot 0 ∷ halved .edges .slot 1 ∷ [] ≡ edgeOf 0 0 2 (0 ∷ 1 ∷ []) ∷ edgeOf 0 2 1 (2 ∷ 3 ∷ []) ∷ []
+halves : halved .edges .slot 0 ∷ halved .edges .slot 1 ∷ [] ≡ anEdge 0 0 2 (0 ∷ 1 ∷ []) ∷ anEdge 0 2 1 (2 ∷ 3 ∷ []) ∷ []
 unfolding computing
 halves = refl
 
@@ -118,17 +118,17 @@ unfolding computing
 front-shell-alone = refl
 
 -- a solid's edge with one fin, where the walk fails
-no-walk-no-edge : topology (asSolid (finsAre (0 ∷ []) (withLoop 0 (loopOf 0 (0 ∷ 9 ∷ [])) blade))) ≡ fault 13 0 ∷ []
+no-walk-no-edge : topology (asSolid (finsAre (0 ∷ []) (withLoop 0 (aLoop 0 (0 ∷ 9 ∷ [])) blade))) ≡ fault 13 0 ∷ []
 unfolding computing
 no-walk-no-edge = refl
 
 -- a start just at the sum of both tolerances: a check not made
-unresolved : curveTest (tolerantEdge quarter (withVertex 0 (record { point = at (real 0) (real 1 /ᶠ real 2) (real 0); tolerance = Own quarter }) blade)) 0 0 0 ≡ skipped ∷ []
+unresolved : curveTest (tolerantEdge quarter (withVertex 0 (record { point = at (floatOf 0) (floatOf 1 /ᶠ floatOf 2) (floatOf 0); tolerance = Own quarter }) blade)) 0 0 0 ≡ skipped ∷ []
 unfolding computing
 unresolved = refl
 
 -- a sample is ((t1 - t0)·k)/(n + 1), and not (t1 - t0)·(k/(n + 1))
-product-first : bits (sampleAt (real 0) (real 3) 4 1) ≡ 0x3fe3_3333_3333_3333
+product-first : bits (sampleAt (floatOf 0) (floatOf 3) 4 1) ≡ 0x3fe3_3333_3333_3333
 unfolding computing
 product-first = refl
 

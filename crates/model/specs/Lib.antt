@@ -4,5 +4,5 @@ pub mod Readable
 pub mod Entries
 pub mod Fit
 pub mod Laws
-pub mod Rows
+pub mod TableRows
 pub mod Laid

@@ -13,7 +13,7 @@ use Rattle.model.specs.Readable.{readable}
 use Rattle.model.specs.Entries.{listOf}
 use Rattle.frame.specs.Change.{SameTable, SameModel}
 use Rattle.frame.specs.Kept.{readable-of}
-use Rattle.cuts.specs.Rows.{limits, splitNumber}
+use Rattle.cuts.specs.SplitNumber.{limits, splitNumber}
 use Rattle.splits.specs.After.{splitWords, splitReals}
 use Rattle.splits.specs.Rooms.{accepted}
 use Rattle.outcome.specs.Reads.{loop-place, shell-place, edge-place, slot-words, slot-floats}
@@ -21,7 +21,7 @@ use Rattle.outcome.specs.Same.{model-split}
 use Rattle.outcome.specs.Stays.{fit-split}
 
 -- the words w′ and the floats x′ are readable, and hold the model m
-pub record Holds (room w′ : List ℕ) (x′ : List Float) (m : Model) : Type 0 where
+pub record HoldsModel (room w′ : List ℕ) (x′ : List Float) (m : Model) : Type 0 where
   pub readable : readable room w′ x′ ≡ true
   pub model : SameModel (decode room w′ x′) m
 
@@ -52,7 +52,7 @@ same-model m =
 
 module _ (room w : List ℕ) (x : List Float) (e : ℕ) (t : Float) where
   -- an accepted split leaves a readable memory that holds the model after the split
-  pub split-done : splitNumber room w x e t ≡ 0 → Holds room (splitWords room w x e t) (splitReals room w x e t) (afterSplit (decode room w x) e t)
+  pub split-done : splitNumber room w x e t ≡ 0 → HoldsModel room (splitWords room w x e t) (splitReals room w x e t) (afterSplit (decode room w x) e t)
   unfolding splitWords splitReals
   split-done z =
       let a = accepted room w x e t z in
@@ -77,7 +77,7 @@ module _ (room w : List ℕ) (x : List Float) (e : ℕ) (t : Float) where
   split-refused n z = rw z (refl, refl)
 
   -- so that a readable memory holds, behind the call, the model that `meaning` says, accepted or refused
-  pub split-model : readable room w x ≡ true → Holds room (splitWords room w x e t) (splitReals room w x e t) (modelAfter (limits room) (decode room w x) e t)
+  pub split-model : readable room w x ≡ true → HoldsModel room (splitWords room w x e t) (splitReals room w x e t) (modelAfter (limits room) (decode room w x) e t)
   unfolding modelAfter splitNumber
   split-model r = go (splitRefusal (limits room) (decode room w x) e t) refl
     where
@@ -85,6 +85,6 @@ module _ (room w : List ℕ) (x : List Float) (e : ℕ) (t : Float) where
       number = rw r
 
       go : (n : ℕ) → splitRefusal (limits room) (decode room w x) e t ≡ n
-          → Holds room (splitWords room w x e t) (splitReals room w x e t) (whereAccepted n (decode room w x) (afterSplit (decode room w x) e t))
+          → HoldsModel room (splitWords room w x e t) (splitReals room w x e t) (whereAccepted n (decode room w x) (afterSplit (decode room w x) e t))
       go zero z = split-done (number ∙ z)
       go (suc n) z = let k = split-refused n (number ∙ z) in rw (k .0, k .1) (record { readable = r; model = same-model (decode room w x) })

@@ -13,7 +13,7 @@ use lib.Ieee.{Float, binary64, nan, ofBits, ofInt}
 use Rattle.numbers.specs.Ops.{zeroF}
 use Rattle.vectors.specs.declared.vector.Point3.{Point3}
 use Rattle.vectors.specs.Space.{_+ᶠ_}
-use Rattle.meaning.specs.Floats.{_/ᶠ_, real}
+use Rattle.meaning.specs.Floats.{_/ᶠ_, floatOf}
 use Rattle.meaning.specs.Inquire as Inquire
 use Rattle.polygons.specs.Polygons.{originP, pointsOf, withPoint, turned, wedge}
 
@@ -106,7 +106,7 @@ pub zero-bits : ofBits binary64 0 ≡ zeroF
 unfolding ofBits
 zero-bits = refl
 
-pub six-bits : ofBits binary64 4618441417868443648 ≡ real 6
+pub six-bits : ofBits binary64 4618441417868443648 ≡ floatOf 6
 unfolding ofBits ofInt
 six-bits = refl
 
@@ -133,7 +133,7 @@ unfolding Inquire.polygonVolume
 polygon-none [] e = refl
 polygon-none (p ∷ l) e = absurd (omega arith)
 
-pub polygon-fan : (l : List Point3) → 0 < length l → Inquire.polygonVolume l ≡ Inquire.fan (getD l 0 originP) zeroF (drop 1 l) /ᶠ real 6
+pub polygon-fan : (l : List Point3) → 0 < length l → Inquire.polygonVolume l ≡ Inquire.fan (getD l 0 originP) zeroF (drop 1 l) /ᶠ floatOf 6
 unfolding Inquire.polygonVolume
 polygon-fan [] h = absurd (omega arith)
 polygon-fan (p ∷ l) h = refl

@@ -22,7 +22,7 @@ use Rattle.model.specs.Laws.{words-length, lists-of}
 use Rattle.frame.specs.Put.{over, putWords, putReals, newWords, counted, unlessRefused}
 use Rattle.frame.specs.Over.{length-over}
 use Rattle.frame.specs.Frame.{new-length}
-use Rattle.frame.specs.Change.{SameModel, withRecord, withNew}
+use Rattle.frame.specs.Change.{SameModel, withRecord, withOneMore}
 use Rattle.frame.specs.Kept.{readable-of, model-put, fit-put, model-new, fit-new}
 use Rattle.edits.specs.Answers.{insertNumber, insertWords, insertReals, editNumber, editWords, editReals}
 use Rattle.edits.specs.Facts.{Fields}
@@ -68,7 +68,7 @@ module _ (room w : List ℕ) (x : List Float) where
 
   module _ (ok : Bool) (k : ℕ) (f : List ℕ) (s : List Float) (n : Model) where
     -- the new record has lists of length 0
-    pub inserts : Fields k 0 f s → (ok ≡ true → Readable.recordOk k (newWords k f) s ≡ true) → withNew k (newWords k f) s (decode room w x) ≡ n
+    pub inserts : Fields k 0 f s → (ok ≡ true → Readable.recordOk k (newWords k f) s ≡ true) → withOneMore k (newWords k f) s (decode room w x) ≡ n
         → Inserts room w x ok k f s n
     unfolding insertWords insertReals
     inserts fields passes same =

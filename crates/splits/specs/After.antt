@@ -10,7 +10,7 @@ use Rattle.model.specs.Decode.{decode}
 use Rattle.frame.specs.Put.{unlessRefused}
 use Rattle.pieces.specs.Pieces.{floatsPut}
 use Rattle.seams.specs.Written.{wordsSplit}
-use Rattle.cuts.specs.Rows.{splitNumber}
+use Rattle.cuts.specs.SplitNumber.{splitNumber}
 use Rattle.replies.specs.declared.Split.{Split}
 use Rattle.replies.specs.declared.Split.the-variants.{Is, Refused}
 

@@ -30,7 +30,7 @@ use Rattle.attached.specs.Laws.{counts-listed}
 use Rattle.uses.specs.Uses.{cutAt, onceEach, finTest}
 use Rattle.cuts.specs.Cuts.{pointTest, wireTest, ownedBy, loopTest, tablesTest, capacityTest}
 use Rattle.cuts.specs.Facts.{Owned}
-use Rattle.cuts.specs.Rows.{limits, splitNumber, edgeRow, placeRow, roomRow}
+use Rattle.cuts.specs.SplitNumber.{limits, splitNumber, edgeRow, placeRow, roomRow}
 use Rattle.cuts.specs.Laws.{Opened, opened, owned, place-rows, room-rows, split-rows}
 use Rattle.pieces.specs.Pieces.{finWord, finWords}
 use Rattle.pieces.specs.Facts.{Slots}

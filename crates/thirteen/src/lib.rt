@@ -17,7 +17,7 @@ ghost use mathlib.Core.Path.{_≡_};
 ghost use Rattle.meaning.specs.Split.{splitRefusal};
 ghost use Rattle.model.specs.Decode.{decode};
 ghost use Rattle.model.specs.Fit.{Fit};
-ghost use Rattle.cuts.specs.Rows.{limits, edgeRow, placeRow, roomRow, splitNumber};
+ghost use Rattle.cuts.specs.SplitNumber.{limits, edgeRow, placeRow, roomRow, splitNumber};
 
 // Tests 1 to 8.
 fn edge_refusal(room: &[usize; 10], words: &[u32], reals: &[f64], edge: usize, fraction: f64) -> u32

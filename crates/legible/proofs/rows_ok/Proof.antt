@@ -6,7 +6,7 @@ use lib.ListN.{length}
 use Rattle.meaning.specs.Lists.{allBelow}
 use Rattle.lists.specs.Tests.{allBelow-none, allBelow-turn}
 use Rattle.model.specs.Readable.{recordOk}
-use Rattle.model.specs.Rows.{row, rowsOk, row-inside, row-length}
+use Rattle.model.specs.TableRows.{row, rowsOk, row-inside, row-length}
 use borrow.Author.Needs.{needs}
 use Rattle.legible.proofs.rows_ok.Statement.{statement}
 use Rattle.legible.proofs.rows_ok.Tie as tie

@@ -3,7 +3,7 @@ use mathlib.Core.Path.{_∙_}
 use native.Mathlib.Omega.{arith}
 use Rattle.model.specs.Layout.{wordStrides}
 use Rattle.model.specs.Laws.{before-tables}
-use Rattle.model.specs.Rows.{rest, table-rows, table-begins, rows-table}
+use Rattle.model.specs.TableRows.{rest, table-rows, table-begins, rows-table}
 use borrow.Author.Needs.{needs}
 use Rattle.legible.proofs.table_ok.Statement.{statement}
 use Rattle.legible.proofs.table_ok.Tie as tie

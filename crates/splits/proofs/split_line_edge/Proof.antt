@@ -1,7 +1,7 @@
 use Rattle.splits.specs.Rooms.{accepted, slots, listing, opening}
 use Rattle.splits.specs.After.{splitAnswer, splitWords, splitReals}
 use Rattle.replies.specs.declared.Split.the-variants.{Is, Refused}
-use Rattle.cuts.specs.Rows.{splitNumber}
+use Rattle.cuts.specs.SplitNumber.{splitNumber}
 use Rattle.frame.specs.Kept.{refused-keeps}
 use Rattle.lists.specs.Tests.{refused-answer}
 use mathlib.Core.Path.{_≡_, refl, sym, _∙_}

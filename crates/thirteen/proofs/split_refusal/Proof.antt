@@ -5,7 +5,7 @@ use mathlib.Core.Bool.{true, false}
 use borrow.Author.Tests.{not-true, not-false}
 use Rattle.model.specs.Readable.{readable}
 use Rattle.model.specs.Laws.{fit-of}
-use Rattle.cuts.specs.Rows.{splitNumber}
+use Rattle.cuts.specs.SplitNumber.{splitNumber}
 use Rattle.thirteen.proofs.split_refusal.Statement.{statement}
 use Rattle.thirteen.proofs.split_refusal.Tie as tie
 

@@ -20,7 +20,7 @@ unfoldable pub row : {A : Type 0} → List A → ℕ → ℕ → List A
 row l n i = take n (drop (n * i) l)
 
 -- the words and the floats hold n records of table k
-pub record Rows (k n : ℕ) (w : List ℕ) (x : List Float) : Type 0 where
+pub record TableRows (k n : ℕ) (w : List ℕ) (x : List Float) : Type 0 where
   pub table : k < 10
   pub few : n ≤ 4096
   pub words : word wordStrides k * n ≤ length w
@@ -56,7 +56,7 @@ rows-fit l from strides room k n h g f =
     (omega arith, simp length-drop (omega arith))
 
 pub table-rows : (room w : List ℕ) (x : List Float) (k : ℕ) → Sized room w x → k < 10
-    → Rows k (word w k) (drop (wordAt room k 0) w) (drop (realAt room k 0) x)
+    → TableRows k (word w k) (drop (wordAt room k 0) w) (drop (realAt room k 0) x)
 table-rows room w x k s h =
     let c = s .counts k h in
     let d = capacity-le room (s .small) k h in
