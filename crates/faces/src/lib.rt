@@ -4,6 +4,8 @@ use likened::checked_from;
 use likened::is_shell;
 use listing::list;
 use loops::loop_;
+use reasons::FACE;
+use reasons::SHELL;
 use reasons::Tally;
 use reasons::note;
 use reasons::note_if;
@@ -63,7 +65,7 @@ fn face_inside(
     let face = face_at(room, words, f as usize);
     let surface = face.surface;
     let bare = is_none(surface);
-    let a = note_if(nums, t, bare, 9, 0, f);
+    let a = note_if(nums, t, bare, 9, FACE, f);
     let loops = list(room, words, 5, f as usize);
     all_loops(room, words, reals, nums, a, geometry, n, f, loops)
 }
@@ -86,13 +88,13 @@ pub fn face(
     ensures { λ r. ⌜ Noted (faceFindings (decode (now (room .entry)) (now (words .entry)) (now (reals .entry))) (options geometry n) s f) (now (nums .entry)) t (now (nums .exit)) r ⌝ }
 {
     if words[3] <= f {
-        return note(nums, t, 7, 0, s);
+        return note(nums, t, 7, SHELL, s);
     }
     let face = face_at(room, words, f as usize);
     let front = face.front;
     let back = face.back;
     let sided = is_shell(front, s) | is_shell(back, s);
-    let a = note_if(nums, t, !sided, 8, 0, f);
+    let a = note_if(nums, t, !sided, 8, FACE, f);
     if !checked_from(front, s) {
         return a;
     }

@@ -8,6 +8,9 @@ use fetched::fin_at;
 use geometry::tolerance::effective_tolerance;
 use listing::list;
 use marks::has;
+use reasons::EDGE;
+use reasons::FIN;
+use reasons::LOOP;
 use reasons::Tally;
 use reasons::note;
 use reasons::note_if;
@@ -30,7 +33,7 @@ fn end_there(nums: &mut [u32], t: Tally, used: u32, e: u32, end: Ref) -> Tally
 {
     match end {
         Ref::None => t,
-        Ref::Is(v) => note_if(nums, t, !(v < used), 17, 0, e),
+        Ref::Is(v) => note_if(nums, t, !(v < used), 17, EDGE, e),
     }
 }
 
@@ -70,10 +73,10 @@ fn fin_edge(
     ensures { λ r. ⌜ Noted (finEdge (decode (now (room .entry)) (now (words .entry)) (now (reals .entry))) i e) (now (nums .entry)) t (now (nums .exit)) r ⌝ }
 {
     if words[6] <= e {
-        return note(nums, t, 15, 0, i);
+        return note(nums, t, 15, FIN, i);
     }
     let listed = has(list(room, words, 7, e as usize), i);
-    let a = note_if(nums, t, !listed, 16, 0, e);
+    let a = note_if(nums, t, !listed, 16, EDGE, e);
     ends_there(room, words, reals, nums, a, e)
 }
 
@@ -92,10 +95,10 @@ pub fn fin(
     ensures { λ r. ⌜ Noted (finFindings (decode (now (room .entry)) (now (words .entry)) (now (reals .entry))) l i) (now (nums .entry)) t (now (nums .exit)) r ⌝ }
 {
     if words[5] <= i {
-        return note(nums, t, 13, 0, l);
+        return note(nums, t, 13, LOOP, l);
     }
     let fin = fin_at(room, words, i as usize);
-    let a = note_if(nums, t, fin.owner != l, 14, 0, i);
+    let a = note_if(nums, t, fin.owner != l, 14, FIN, i);
     fin_edge(room, words, reals, nums, a, i, fin.edge)
 }
 
@@ -143,7 +146,7 @@ fn edge_geometry(
     let edge = edge_at(room, words, reals, e as usize);
     let curve = edge.curve;
     match curve {
-        Ref::None => note(nums, t, 21, 0, e),
+        Ref::None => note(nums, t, 21, EDGE, e),
         Ref::Is(c) => match surface {
             Ref::None => t,
             Ref::Is(s) => carried_on(room, words, reals, nums, t, n, e, c, s),

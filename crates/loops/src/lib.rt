@@ -6,6 +6,8 @@ use fins::fin;
 use fins::fin_geometry;
 use listing::list;
 use opens::open_loop;
+use reasons::FACE;
+use reasons::LOOP;
 use reasons::Tally;
 use reasons::note;
 use reasons::note_if;
@@ -109,7 +111,7 @@ fn loop_fins(
     ensures { λ r. ⌜ Noted (finsFindings (decode (now (room .entry)) (now (words .entry)) (now (reals .entry))) (options geometry n) f l (now (fins .entry))) (now (nums .entry)) t (now (nums .exit)) r ⌝ }
 {
     if fins.len() == 0 {
-        return note(nums, t, 12, 0, l);
+        return note(nums, t, 12, LOOP, l);
     }
     let a = all_fins(room, words, reals, nums, t, l, fins);
     let b = open_loop(room, words, reals, nums, a, fins);
@@ -137,10 +139,10 @@ pub fn loop_(
     ensures { λ r. ⌜ Noted (loopFindings (decode (now (room .entry)) (now (words .entry)) (now (reals .entry))) (options geometry n) f l) (now (nums .entry)) t (now (nums .exit)) r ⌝ }
 {
     if words[4] <= l {
-        return note(nums, t, 10, 0, f);
+        return note(nums, t, 10, FACE, f);
     }
     let owner = loop_at(room, words, l as usize).face;
-    let a = note_if(nums, t, owner != f, 11, 0, l);
+    let a = note_if(nums, t, owner != f, 11, LOOP, l);
     let fins = list(room, words, 6, l as usize);
     loop_fins(room, words, reals, nums, a, geometry, n, f, l, fins)
 }

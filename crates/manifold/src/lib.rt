@@ -6,6 +6,7 @@ use listing::list;
 use marks::clear;
 use parts::part;
 use paths::edge_path;
+use reasons::EDGE;
 use reasons::Tally;
 use reasons::note;
 use reasons::note_if;
@@ -76,10 +77,10 @@ fn manifold_fins(
     ensures { λ r. ⌜ Noted (manifold (decode (now (room .entry)) (now (words .entry)) (now (reals .entry))) e (now (fins .entry))) (now (nums .entry)) t (now (nums .exit)) r ⌝ }
 {
     if fins.len() != 2 {
-        return note(nums, t, 19, 0, e);
+        return note(nums, t, 19, EDGE, e);
     }
     let equal = same_senses(room, words, fins[0], fins[1]);
-    note_if(nums, t, equal, 20, 0, e)
+    note_if(nums, t, equal, 20, EDGE, e)
 }
 
 fn manifold_edge(

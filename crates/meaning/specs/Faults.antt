@@ -102,9 +102,13 @@ classOr (some c) asked = c
 unfoldable pub faultOn : ℕ → Asked → Finding
 faultOn n a = found (record { kind = reasonRow n .kind; class = classOr (reasonRow n .class) (a .class); id = a .id; reason = n })
 
--- reason n, one whose class stands in the table, at the entity i
+-- reason n, at the entity i of the class that its row has (25 and 26 have none, and are put on what was asked about)
+abbrev rowClass : Option Class → Class
+rowClass none = ofBody
+rowClass (some c) = c
+
 abbrev pub fault : ℕ → ℕ → Finding
-fault n i = faultOn n (about ofBody i)
+fault n i = faultOn n (about (rowClass (reasonRow n .class)) i)
 
 -- a finding where the test holds
 abbrev pub onlyIf : Bool → Finding → List Finding

@@ -4,6 +4,7 @@ use entity::records::Sense;
 use fetched::edge_at;
 use fetched::fin_at;
 use likened::refs::same_ref;
+use reasons::FIN;
 use reasons::Tally;
 use reasons::note_if;
 ghost use mathlib.Core.Path.{_≡_};
@@ -95,7 +96,7 @@ fn open_at(
     ensures { λ r. ⌜ Noted (openAt (decode (now (room .entry)) (now (words .entry)) (now (reals .entry))) i next) (now (nums .entry)) t (now (nums .exit)) r ⌝ }
 {
     let apart = open_between(room, words, reals, i, next);
-    note_if(nums, t, apart, 18, 0, i)
+    note_if(nums, t, apart, 18, FIN, i)
 }
 
 // The fin after fin k: after the last comes the first.

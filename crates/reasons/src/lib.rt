@@ -9,14 +9,32 @@ ghost use lib.Seq.{sets};
 ghost use Rattle.meaning.specs.Faults.{skipped, faultOn, about, onlyIf};
 ghost use Rattle.reasons.specs.Log.{classAt, rowOf, Noted, Enough};
 
-// What is fixed for a reason: the fault's kind, and the class of the entity that it is put on, by its table; 8 is the class of what was
-// asked about.
+// The class of an entity, by its table; ASKED is the class of what was asked about.
+pub const BODY: u32 = 0;
+
+pub const REGION: u32 = 1;
+
+pub const SHELL: u32 = 2;
+
+pub const FACE: u32 = 3;
+
+pub const LOOP: u32 = 4;
+
+pub const FIN: u32 = 5;
+
+pub const EDGE: u32 = 6;
+
+pub const VERTEX: u32 = 7;
+
+const ASKED: u32 = 8;
+
+// What is fixed for a reason: the fault's kind, and the class of the entity that it is put on.
 pub struct Reason {
     pub kind: u32,
     pub class: u32,
 }
 
-// 01's reasons, 1 to 26.
+// 01's reasons, 1 to 26. The classes are numbers here, so that a row is a line.
 const REASONS: [Reason; 26] = [
     Reason { kind: 3, class: 0 },
     Reason { kind: 3, class: 0 },
@@ -63,7 +81,7 @@ fn row(n: usize) -> Reason
 fn class_or(class: u32, asked: u32) -> u32
     ensures { λ r. ⌜ r ≡ cond (eqb class 8) asked class ⌝ }
 {
-    if class == 8 {
+    if class == ASKED {
         return asked;
     }
     class

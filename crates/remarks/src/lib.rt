@@ -2,6 +2,7 @@
 // gensolid-check's lib.rs).
 use numbers::Sign;
 use reasons::Tally;
+use reasons::VERTEX;
 use reasons::note;
 use reasons::skip;
 ghost use mathlib.Core.Path.{_≡_};
@@ -32,7 +33,7 @@ pub fn note_off_curve(nums: &mut [u32], t: Tally, sign: Sign, v: u32) -> Tally
     match sign {
         Sign::Negative => t,
         Sign::Zero => t,
-        Sign::Positive => note(nums, t, 22, 0, v),
+        Sign::Positive => note(nums, t, 22, VERTEX, v),
         Sign::Unresolved => skip(t),
     }
 }

@@ -3,6 +3,9 @@ use faces::face;
 use fetched::region_at;
 use fetched::shell_at;
 use listing::list;
+use reasons::BODY;
+use reasons::REGION;
+use reasons::SHELL;
 use reasons::Tally;
 use reasons::note;
 use reasons::note_if;
@@ -63,10 +66,10 @@ fn shell(
     ensures { λ a. ⌜ Noted (shellFindings (decode (now (room .entry)) (now (words .entry)) (now (reals .entry))) (options geometry n) r s) (now (nums .entry)) t (now (nums .exit)) a ⌝ }
 {
     if words[2] <= s {
-        return note(nums, t, 5, 0, r);
+        return note(nums, t, 5, REGION, r);
     }
     let owner = shell_at(room, words, s as usize).region;
-    let a = note_if(nums, t, owner != r, 6, 0, s);
+    let a = note_if(nums, t, owner != r, 6, SHELL, s);
     let faces = list(room, words, 2, s as usize);
     all_faces(room, words, reals, nums, a, geometry, n, s, faces)
 }
@@ -115,10 +118,10 @@ fn region(
     ensures { λ a. ⌜ Noted (regionFindings (decode (now (room .entry)) (now (words .entry)) (now (reals .entry))) (options geometry n) b r) (now (nums .entry)) t (now (nums .exit)) a ⌝ }
 {
     if words[1] <= r {
-        return note(nums, t, 3, 0, b);
+        return note(nums, t, 3, BODY, b);
     }
     let owner = region_at(room, words, r as usize).body;
-    let a = note_if(nums, t, owner != b, 4, 0, r);
+    let a = note_if(nums, t, owner != b, 4, REGION, r);
     let shells = list(room, words, 1, r as usize);
     all_shells(room, words, reals, nums, a, geometry, n, r, shells)
 }
@@ -174,8 +177,8 @@ pub fn region_layout(
     ensures { λ a. ⌜ Noted (layout (decode (now (room .entry)) (now (words .entry)) (now (reals .entry))) b (now (regions .entry))) (now (nums .entry)) t (now (nums .exit)) a ⌝ }
 {
     if regions.len() == 0 {
-        return note(nums, t, 1, 0, b);
+        return note(nums, t, 1, BODY, b);
     }
     let solid = is_solid_region(room, words, regions[0]);
-    note_if(nums, t, solid, 2, 0, b)
+    note_if(nums, t, solid, 2, BODY, b)
 }
