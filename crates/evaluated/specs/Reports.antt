@@ -110,9 +110,10 @@ reports =
     ∷ (otherSurface blade gives [] and 6)
     ∷ (endsAre none none (otherCurve (otherSurface blade)) gives [] and 2)
     ∷ (edgeIs none none (some 9) (0 ∷ 1 ∷ []) (otherSurface blade) gives [] and 2)
+    ∷ (endsAre none none (withCurve 0 (plane (onAxis (floatOf 0)) up) blade) gives [] and 2)
+    ∷ (endsAre none none (withSurface 0 (line (onAxis (floatOf 0)) right) blade) gives [] and 2)
     -- and nothing of a line, a plane or a missing curve without ends, of ends that are missing, or where the face has no surface
     ∷ (endsAre none none blade gives [] and 0)
-    ∷ (endsAre none none (withCurve 0 (plane (onAxis (floatOf 0)) up) blade) gives [] and 0)
     ∷ (edgeIs none none (some 9) (0 ∷ 1 ∷ []) blade gives [] and 0)
     ∷ (endsAre (some 8) (some 9) (otherCurve blade) gives twice (entry 17 1 ofEdge 0 ∷ entry 17 1 ofEdge 0 ∷ []) and 0)
     ∷ (endsAre none none (surfaceIs none (otherCurve blade)) gives (entry 9 8 ofFace 0 ∷ []) and 0)
@@ -168,6 +169,7 @@ verdicts =
     (blade gives given true)
     ∷ (startAt (at (floatOf 0) (floatOf 1) (floatOf 0)) blade gives given false)
     ∷ (otherSurface blade gives given false)
+    ∷ (endsAre none none (withCurve 0 (plane (onAxis (floatOf 0)) up) blade) gives given false)
     ∷ (asSolid (withRegion 0 (aRegion 0 false []) blade) gives given true)
     ∷ []
 

@@ -62,8 +62,8 @@ abbrev part : ℕ → Float
 part n = floatOf 1 /ᶠ floatOf (2 ^ n)
 
 -- "last fin struck from one loop": loop 0 loses its fourth fin
-abbrev struck : Model
-struck = withLoop 0 (aLoop 0 (0 ∷ 1 ∷ 2 ∷ [])) stone
+abbrev finStruck : Model
+finStruck = withLoop 0 (aLoop 0 (0 ∷ 1 ∷ 2 ∷ [])) stone
 
 -- "solid with a void region only": the body keeps its first region alone, which has no shell
 abbrev hollow : Model
@@ -80,7 +80,7 @@ rows =
     ∷ (split-A-at nan gives refusal 1)
     ∷ (split-A-at (part 12) gives refusal 4)
     ∷ (split-A-at (part 11) gives floats (part 9 ∷ floatOf 0 ∷ floatOf 0 ∷ []))
-    ∷ (faults-of struck gives numbers (18 ∷ []))
+    ∷ (faults-of finStruck gives numbers (18 ∷ []))
     ∷ (faults-of hollow gives numbers [])
     ∷ (volume-of hollow gives refusal 4)
     ∷ (sum-of 1 2 gives numbers (0x4007_ffff_ffff_ffff ∷ 0x4008_0000_0000_0001 ∷ []))

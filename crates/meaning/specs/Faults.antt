@@ -173,16 +173,23 @@ sampleTests m n e c s =
     (joined (λ k. sampleTest m e c s (sampleAt t0 t1 n k)) (run 1 n))
     []
 
--- "so does (added) a fin whose edge has neither end and whose curve or surface is 'other'"
-abbrev pub isOther : Found → Bool
-isOther Missing = false
-isOther (There (Carriers.Line l)) = false
-isOther (There (Carriers.Plane s)) = false
-isOther (There Carriers.Other) = true
+-- "so does (added) a fin whose edge has neither end and whose curve or surface is 'other'". To this rule a curve that is there and no line is "other",
+-- and so is a surface that is there and no plane: "A doubtful measurement counts as unchecked, never as sound"
+abbrev pub noLine : Found → Bool
+noLine Missing = false
+noLine (There (Carriers.Line l)) = false
+noLine (There (Carriers.Plane s)) = true
+noLine (There Carriers.Other) = true
+
+abbrev pub noPlane : Found → Bool
+noPlane Missing = false
+noPlane (There (Carriers.Line l)) = true
+noPlane (There (Carriers.Plane s)) = false
+noPlane (There Carriers.Other) = true
 
 abbrev pub otherRing : Model → ℕ → ℕ → ℕ → Bool
 otherRing m e c s =
-    not (isSome (edge m e .start)) && not (isSome (edge m e .end)) && (isOther (curve m c) || isOther (surface m s))
+    not (isSome (edge m e .start)) && not (isSome (edge m e .end)) && (noLine (curve m c) || noPlane (surface m s))
 
 -- "an edge with no curve gives 21, a face with no surface gives nothing, and either ends that fin"
 unfoldable pub carried : Model → ℕ → ℕ → Option ℕ → Option ℕ → List Finding

@@ -2,7 +2,7 @@
 -- Each asks the smallest model and the innermost definition that tell, since every edit evaluates them again; the crate `evaluated` has the whole tables.
 use Prim.Native.Nat.{ℕ}
 use mathlib.Core.Path.{_≡_, refl}
-use mathlib.Core.Bool.{false}
+use mathlib.Core.Bool.{true, false}
 use mathlib.Core.List.{List, [], _∷_, map}
 use mathlib.Core.Option.{none, some}
 use lib.Ieee.{Float, binary64, neg, toBits}
@@ -13,9 +13,9 @@ use Rattle.meaning.specs.Refuse.{given}
 use Rattle.meaning.specs.Walks.{faceWalk, edgeWalk, vertexWalk}
 use Rattle.meaning.specs.Inquire.{boxOf, sideVolume}
 use Rattle.meaning.specs.Split.{test10, onPlane, test11-fin, test13, boundsRefusal, afterSplit, modelAfter}
-use Rattle.meaning.specs.Faults.{Finding, skipped, fault, sampleAt, curveTest, findings, checkRefusal, fitToSaw}
-use Rattle.meaning.specs.Stone.{at, up, anEdge, aLoop, stone}
-use Rattle.meaning.specs.Blade.{blade, withLoop, withVertex, quarter, onAxis, asSolid, edgeIs, endsAre, finsAre, faceIs, shellIs, otherCurve, otherSurface, tolerantEdge, askew, room}
+use Rattle.meaning.specs.Faults.{Finding, skipped, fault, sampleAt, curveTest, otherRing, findings, checkRefusal, fitToSaw}
+use Rattle.meaning.specs.Stone.{at, right, up, line, plane, anEdge, aLoop, stone}
+use Rattle.meaning.specs.Blade.{blade, withLoop, withVertex, withCurve, withSurface, quarter, onAxis, asSolid, edgeIs, endsAre, finsAre, faceIs, shellIs, otherCurve, otherSurface, tolerantEdge, askew, room}
 use Rattle.meaning.specs.Computing.{computing}
 
 -- ---- walks
@@ -131,6 +131,15 @@ unresolved = refl
 product-first : bits (sampleAt (floatOf 0) (floatOf 3) 4 1) ≡ 0x3fe3_3333_3333_3333
 unfolding computing
 product-first = refl
+
+-- an edge with neither end on a plane, or beside a line for a surface: checks not made
+plane-ring : otherRing (endsAre none none (withCurve 0 (plane (onAxis (floatOf 0)) up) blade)) 0 0 0 ≡ true
+unfolding computing
+plane-ring = refl
+
+line-ring : otherRing (endsAre none none (withSurface 0 (line (onAxis (floatOf 0)) right) blade)) 0 0 0 ≡ true
+unfolding computing
+line-ring = refl
 
 -- no fault, and two checks not made
 not-fit : fitToSaw (endsAre none none (otherCurve (otherSurface blade))) 0 ≡ given false

@@ -16,7 +16,7 @@ use Rattle.store.specs.Queries.{theLine}
 use Rattle.queried.specs.Queries.{projectRefusal, projection, projectToCurve}
 use Rattle.meaning.specs.Lists.{isSome, listed, joined}
 use Rattle.meaning.specs.Model.{Model, has, vertex, pointOf}
-use Rattle.meaning.specs.Faults.{Finding, isOther}
+use Rattle.meaning.specs.Faults.{Finding, noLine, noPlane}
 use Rattle.entity.specs.declared.records.Ref.{Ref}
 use Rattle.entity.specs.declared.records.Ref.the-variants as Refs
 use Rattle.entity.specs.declared.records.Vertex.{Vertex}
@@ -43,7 +43,7 @@ one-end f r v e = rw e (append-nil (f v))
 
 -- ---- the rule of rings
 
-pub ring-told : (curve surface : Found) (a b : Option ℕ) (p q r s : Bool) → p ≡ not (isSome a) → q ≡ not (isSome b) → r ≡ isOther curve → s ≡ isOther surface
+pub ring-told : (curve surface : Found) (a b : Option ℕ) (p q r s : Bool) → p ≡ not (isSome a) → q ≡ not (isSome b) → r ≡ noLine curve → s ≡ noPlane surface
     → (p && q && (r || s)) ≡ ringed curve surface a b
 unfolding ringed
 ring-told curve surface a b p q r s h i j k = cc

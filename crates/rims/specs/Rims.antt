@@ -10,7 +10,7 @@ use Rattle.store.specs.Queries.{theLine}
 use Rattle.queried.specs.Queries.{projectRefusal}
 use Rattle.meaning.specs.Lists.{isSome}
 use Rattle.meaning.specs.Model.{Model, has, pointOf}
-use Rattle.meaning.specs.Faults.{isOther}
+use Rattle.meaning.specs.Faults.{noLine, noPlane}
 use Rattle.entity.specs.declared.records.Ref.{Ref}
 use Rattle.entity.specs.declared.records.Ref.the-variants as Refs
 use Rattle.rims.specs.declared.Param.{Param}
@@ -28,4 +28,4 @@ paramAt m curve v =
 
 -- `otherRing`
 unfoldable pub ringed : Found → Found → Option ℕ → Option ℕ → Bool
-ringed curve surface start end = not (isSome start) && not (isSome end) && (isOther curve || isOther surface)
+ringed curve surface start end = not (isSome start) && not (isSome end) && (noLine curve || noPlane surface)

@@ -14,7 +14,7 @@ ghost use mathlib.Core.Bool.{not};
 ghost use mathlib.Core.List.{List};
 ghost use Prim.Native.Nat.{ℕ};
 ghost use Rattle.meaning.specs.Lists.{isSome};
-ghost use Rattle.meaning.specs.Faults.{skipped, onlyIf, isOther};
+ghost use Rattle.meaning.specs.Faults.{skipped, onlyIf, noLine, noPlane};
 ghost use Rattle.model.specs.Decode.{decode};
 ghost use Rattle.model.specs.Fit.{Sized};
 ghost use Rattle.reasons.specs.Log.{Noted, Enough};
@@ -40,13 +40,28 @@ pub fn parameter_at(room: &[usize; 10], words: &[u32], reals: &[f64], curve: Fou
     }
 }
 
-fn is_other(found: Found) -> bool
-    ensures { λ r. ⌜ r ≡ isOther found ⌝ }
+// A curve that is there and no line.
+fn no_line(found: Found) -> bool
+    ensures { λ r. ⌜ r ≡ noLine found ⌝ }
 {
     match found {
         Found::Missing => false,
         Found::There(carrier) => match carrier {
             Carrier::Line(_) => false,
+            Carrier::Plane(_) => true,
+            Carrier::Other => true,
+        },
+    }
+}
+
+// A surface that is there and no plane.
+fn no_plane(found: Found) -> bool
+    ensures { λ r. ⌜ r ≡ noPlane found ⌝ }
+{
+    match found {
+        Found::Missing => false,
+        Found::There(carrier) => match carrier {
+            Carrier::Line(_) => true,
             Carrier::Plane(_) => false,
             Carrier::Other => true,
         },
@@ -62,14 +77,14 @@ pub fn is_none(end: Ref) -> bool
     }
 }
 
-// A check not made, where an edge has neither end and its curve or the surface is "other".
+// A check not made, where an edge has neither end and its curve is no line or the surface no plane.
 pub fn ring(t: Tally, curve: Found, surface: Found, edge: Edge) -> Tally
     requires { ⌜ Enough t (onlyIf (ringed curve surface (refOf (edge .start)) (refOf (edge .end))) skipped) ⌝ }
     ensures { λ r. ⌜ ((d : List ℕ) → Noted (onlyIf (ringed curve surface (refOf (edge .start)) (refOf (edge .end))) skipped) d t d r) ⌝ }
 {
     let start = edge.start;
     let end = edge.end;
-    let other = is_none(start) & is_none(end) & (is_other(curve) | is_other(surface));
+    let other = is_none(start) & is_none(end) & (no_line(curve) | no_plane(surface));
     if other {
         return skip(t);
     }
