@@ -24,6 +24,7 @@ calls! {
     brunskerl_vertex(id: usize, value: *mut [u32; 1], floats: *mut [f64; 4]) -> u32;
     brunskerl_curve(id: usize, value: *mut [u32; 1], floats: *mut [f64; 6]) -> u32;
     brunskerl_surface(id: usize, value: *mut [u32; 1], floats: *mut [f64; 6]) -> u32;
+    brunskerl_contains(table: u32, id: usize, value: *mut [u32; 1]) -> u32;
     brunskerl_list_entry(list: usize, id: usize, place: usize, entry: *mut [u32; 1]) -> u32;
     brunskerl_fin_vertices(fin: usize, ends: *mut [u32; 4]) -> u32;
     brunskerl_edge_parameter_bounds(edge: usize, bounds: *mut [f64; 2]) -> u32;

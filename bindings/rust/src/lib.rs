@@ -1,10 +1,17 @@
 //! The station's proved calls on models of cut stone, safe to call from Rust.
 //!
 //! A [`Model`] owns the memory that it lends to the calls. Nothing is merged: a call does all that it says, or is refused with a
-//! [`Refusal`] and leaves the model as it was. A [`Report`] counts what could not be measured as unchecked, never as sound.
+//! [`Refusal`], which is a number alone, and leaves the model as it was. A [`Report`] counts what could not be measured as unchecked, never as
+//! sound; it does not say what that was.
+//!
+//! What a caller owes: lines and planes with directions and normals of length 1, which [`Carrier::line_through`], [`Carrier::plane_through`]
+//! and their like make; for the answers to be those of the Rust that the station is ported from, finite coordinates of size at most 2^40, and a
+//! precision and tolerances of at least 2^-100; floats as a program finds them at its start (rounded to the nearest, no flush to zero). A call takes
+//! less than 128 KB of the thread's stack.
 //!
 //! The example `lintel` builds a box, checks it, splits an edge and prints the report.
 
+mod directions;
 mod ffi;
 mod records;
 mod stone;
@@ -206,6 +213,13 @@ impl Model {
     }
 
     // ---- lookups
+
+    /// Whether there is such a record.
+    pub fn contains(&self, entity: Entity) -> Result<bool, Refusal> {
+        let (table, id) = entity.named();
+        let mut value = [0];
+        Refusal::of(ask!(self, brunskerl_contains(table, id as usize, &mut value))).map(|()| value[0] != 0)
+    }
 
     pub fn body(&self, id: u32) -> Result<BodyKind, Refusal> {
         let mut value = [0; 2];
@@ -415,7 +429,9 @@ impl Model {
 
     // ---- splitting and checking
 
-    /// Splits an edge at a fraction of its length, whole or not at all.
+    /// Splits an edge at a fraction of its length, whole or not at all. A refusal is its number alone.
+    ///
+    /// The edge's line must have a direction of length 1 ([`Carrier`]); else the new vertex can lie beyond the edge's end.
     pub fn split_line_edge(&mut self, edge: u32, fraction: f64) -> Result<Split, Refusal> {
         let mut ids = [0; 3];
         tell!(self, brunskerl_split_line_edge(edge as usize, fraction, &mut ids))?;
@@ -454,7 +470,10 @@ impl Model {
         }
     }
 
-    /// Geometry checked with three samples to an edge, no fault, and nothing unchecked.
+    /// Geometry checked with three samples to an edge, no fault, and nothing unchecked: 01's rule, and no more than that.
+    ///
+    /// It is true of an empty body (a solid with its void region alone, whose volume is refused), of one inside out (whose volume is
+    /// negative), of a flat one (whose volume is 0), and of one whose own tolerances swallow its errors. Ask for the volume and the box too.
     pub fn fit_to_saw(&self, body: u32) -> Result<bool, Refusal> {
         let [mut f, mut e, _] = self.marks();
         let mut fit = [0];
@@ -520,12 +539,12 @@ fn named(fault: &Fault, what: &str, ids: Vec<u32>) -> String {
 #[derive(Clone, Debug, PartialEq, Eq)]
 pub struct Report {
     pub faults: Vec<Fault>,
-    /// Measurements that could not be made; a body with any is not fit to saw.
+    /// How many measurements could not be made, not which; a body with any is not fit to saw.
     pub unchecked: usize,
 }
 
 impl Report {
-    /// No fault, and nothing unchecked.
+    /// No fault, and nothing unchecked. Of a report with geometry and three samples that is what [`Model::fit_to_saw`] says, and as little.
     pub fn is_valid(&self) -> bool {
         self.faults.is_empty() && self.unchecked == 0
     }

@@ -1,5 +1,7 @@
 //! The records as typed values, and how they cross to the station's calls.
 
+use crate::{Refusal, directions};
+
 /// A body's kind.
 #[derive(Clone, Copy, Debug, PartialEq, Eq, Hash)]
 #[repr(u32)]
@@ -20,11 +22,45 @@ pub enum Sense {
 }
 
 /// A line or a plane, or geometry that is not carried.
+///
+/// The station takes a direction and a normal as they are, and its calls mean what they say only where these have the length 1, as the Rust
+/// makes them. On a line whose direction is longer or shorter an edge has other parameters, and a split can put its vertex beyond the edge's
+/// end; from a plane whose normal is, distances are as many times too long or too short. So nobody need write one by hand:
+/// [`Carrier::line_through`], [`Carrier::line`], [`Carrier::plane_through`] and [`Carrier::plane`] make them with the Rust's bits.
 #[derive(Clone, Copy, Debug, PartialEq)]
 pub enum Carrier {
     Line { origin: [f64; 3], direction: [f64; 3] },
     Plane { origin: [f64; 3], normal: [f64; 3] },
     Other,
+}
+
+impl Carrier {
+    /// The line from a towards b, with its origin at a, at the model's precision: [`Refusal::BadArgument`] where a is not finite,
+    /// [`Refusal::Degenerate`] where b is not farther than the precision from it.
+    pub fn line_through(a: [f64; 3], b: [f64; 3], precision: f64) -> Result<Self, Refusal> {
+        let direction = directions::through(a, b, precision)?;
+        Ok(Self::Line { origin: a, direction })
+    }
+
+    /// The line from a point along a way of any length above the precision; refused as [`Carrier::line_through`] is.
+    pub fn line(origin: [f64; 3], way: [f64; 3], precision: f64) -> Result<Self, Refusal> {
+        let direction = directions::along(origin, way, precision)?;
+        Ok(Self::Line { origin, direction })
+    }
+
+    /// The plane through three points, with its origin at the first; they run anticlockwise as seen from the normal's tip.
+    /// [`Refusal::BadArgument`] where one is not finite, [`Refusal::Degenerate`] where another lies within the precision of the first, or all
+    /// lie on a line.
+    pub fn plane_through(points: [[f64; 3]; 3], precision: f64) -> Result<Self, Refusal> {
+        let normal = directions::spanned(points, precision)?;
+        Ok(Self::Plane { origin: points[0], normal })
+    }
+
+    /// The plane through a point with a normal of any length above the precision; refused as [`Carrier::line_through`] is.
+    pub fn plane(origin: [f64; 3], normal: [f64; 3], precision: f64) -> Result<Self, Refusal> {
+        let normal = directions::along(origin, normal, precision)?;
+        Ok(Self::Plane { origin, normal })
+    }
 }
 
 #[derive(Clone, Copy, Debug, PartialEq, Eq)]

@@ -2,7 +2,7 @@
 
 use std::fmt;
 
-/// A refused call: nothing was changed.
+/// A refused call: nothing was changed. It is a number alone: no call says which record it was refused for.
 #[derive(Clone, Copy, Debug, PartialEq, Eq, Hash)]
 #[repr(u32)]
 pub enum Refusal {
@@ -54,7 +54,7 @@ impl fmt::Display for Refusal {
 
 impl std::error::Error for Refusal {}
 
-/// A record that a fault is put on.
+/// A record that a fault is put on, or that is asked for.
 #[derive(Clone, Copy, Debug, PartialEq, Eq, Hash)]
 pub enum Entity {
     Body(u32),
@@ -79,6 +79,20 @@ impl Entity {
             Self::Edge,
             Self::Vertex,
         ][class as usize](id)
+    }
+
+    /// The number of its table, and its id.
+    pub(crate) fn named(self) -> (u32, u32) {
+        match self {
+            Self::Body(id) => (0, id),
+            Self::Region(id) => (1, id),
+            Self::Shell(id) => (2, id),
+            Self::Face(id) => (3, id),
+            Self::Loop(id) => (4, id),
+            Self::Fin(id) => (5, id),
+            Self::Edge(id) => (6, id),
+            Self::Vertex(id) => (7, id),
+        }
     }
 }
 
@@ -127,7 +141,7 @@ const REASONS: [&str; 26] = [
     "gives no finite measurement",
 ];
 
-/// A fault: what is wrong, and with which record.
+/// A fault: what is wrong, and with which record. The station's reasons are 1 to 26.
 #[derive(Clone, Copy, Debug, PartialEq, Eq, Hash)]
 pub struct Fault {
     pub kind: u32,
@@ -148,7 +162,25 @@ impl Fault {
 
 impl fmt::Display for Fault {
     fn fmt(&self, f: &mut fmt::Formatter<'_>) -> fmt::Result {
-        let words = REASONS[self.reason as usize - 1];
+        let told = (self.reason as usize).checked_sub(1).and_then(|place| REASONS.get(place));
+        let words = told.unwrap_or(&"has a fault that has no words here");
         write!(f, "{} {words} (reason {})", self.entity, self.reason)
+    }
+}
+
+#[cfg(test)]
+mod tests {
+    use super::*;
+
+    /// Anyone can make a fault of any number; each has words.
+    #[test]
+    fn every_number_has_words() {
+        let entity = Entity::Edge(7);
+        let told = |reason| Fault { kind: 1, entity, reason }.to_string();
+        assert_eq!(told(1), "edge 7 has no regions (reason 1)");
+        assert_eq!(told(26), "edge 7 gives no finite measurement (reason 26)");
+        for reason in [0, 27, u32::MAX] {
+            assert_eq!(told(reason), format!("edge 7 has a fault that has no words here (reason {reason})"));
+        }
     }
 }
