@@ -4,7 +4,20 @@
  * BRUNSKERL_REALS say how long they must be. Tables, in the order of the capacities: bodies, regions, shells, faces, loops, fins,
  * edges, vertices, curves, surfaces. Ids are slot numbers from 0; nothing is removed.
  *
- * Each call returns 0 or the refusal's number, unless it says otherwise; a refusal leaves every table, list and slot as it was.
+ * What a caller owes. Each pointer is valid, aligned for its type and not null, also where its length is 0, and the length that follows it is the
+ * true one. The parts of one call do not overlap, and nothing else writes to them, nor reads those that the call writes, while it runs. Floats are as a
+ * program finds them at its start: rounded to the nearest, no flush to zero (which -ffast-math would set), no traps. The station keeps nothing
+ * between calls, no address either, so that calls on other memory may run beside each other. A call takes less than 128 KB of stack, and no memory
+ * but that and what is lent. From the C library the station needs memcpy and memset.
+ *
+ * The answers are those of the Rust that the station is ported from where coordinates are finite and at most 2^40 in size, the precision and
+ * tolerances at least 2^-100, and each direction and normal is a vector divided by its length. That is the caller's part: the station takes a
+ * direction as it is given. On a line whose direction is not of length 1 an edge has other parameters, and a split can put its vertex beyond the edge's
+ * end; from a plane whose normal is not, distances are as many times too long or too short. Divide by hypot(hypot(x, y), z), as the Rust
+ * does; the Rust crate beside this header has makers of lines and planes from points.
+ *
+ * Each call returns 0 or the refusal's number, unless it says otherwise; a refusal leaves every table, list and slot as it was. It is the number
+ * alone: no call says which record it was refused for.
  *   1 bad argument   2 no such record   4 degenerate   6 not a solid   7 not carried, or a sign in doubt   8 no room   9 unreadable
  *
  * A record's fields, as `value` and `floats` hold them. An optional id is a tag, 0 for none or 1, and the id. A lookup gives the lengths
@@ -105,15 +118,18 @@ uint32_t brunskerl_body_bounding_box(BRUNSKERL_MEMORY, size_t body, uint8_t *fac
 uint32_t brunskerl_body_volume(BRUNSKERL_MEMORY, size_t body, uint8_t *faces, size_t f, double (*volume)[1]);
 
 /* The parameters of an edge's ends on its line, and the split at a fraction between them: that edge, the new edge, the new
- * vertex. */
+ * vertex. The line's direction must have the length 1, or the new vertex can lie beyond the edge's end. */
 uint32_t brunskerl_edge_parameter_bounds(BRUNSKERL_MEMORY, size_t edge, double (*bounds)[2]);
 uint32_t brunskerl_split_line_edge(BRUNSKERL_MEMORY_OUT, size_t edge, double fraction, uint32_t (*ids)[3]);
 
 /* The report: geometry is checked where that number is not 0; 9, 8 for short marks, 1 for more than 255 samples, 2. The counts are all faults,
- * those kept in `list`, and the checks that could not be made. A fault is four words: kind, class (the entity's table), id, reason. */
+ * those kept in `list`, and the checks that could not be made: how many, not which. A fault is four words: kind, class (the entity's table), id,
+ * reason. */
 uint32_t brunskerl_check_body(BRUNSKERL_MEMORY, size_t body, uint32_t geometry, size_t samples, uint8_t *faces, size_t f, uint8_t *edges, size_t e, uint32_t *list, size_t l, size_t (*counts)[3]);
 
-/* 1 where the body is fit to saw: geometry checked with three samples, no fault, nothing unchecked. */
+/* 1 where the body is fit to saw: geometry checked with three samples, no fault, nothing unchecked; and no more than that. It is 1 for an empty body
+ * (a solid with its void region alone, whose volume is refused with 4), for one inside out (whose volume is negative), for a flat one (whose volume
+ * is 0), and for one whose own tolerances swallow its errors. Ask for the volume and the box too. */
 uint32_t brunskerl_fit_to_saw(BRUNSKERL_MEMORY, size_t body, uint8_t *faces, size_t f, uint8_t *edges, size_t e, uint32_t (*fit)[1]);
 
 #ifdef __cplusplus

@@ -1,0 +1,164 @@
+/* Lays out the trial stone, asks all that the header has, splits an edge, and is refused. What it must print is the file `stdout` beside it. */
+#include <string.h>
+
+#include "stone.h"
+
+static void told(const char *what, uint32_t number)
+{
+    if (number == 0)
+        printf("%s\n", what);
+    else
+        printf("%s: refused with %u\n", what, (unsigned)number);
+}
+
+static void walks(void)
+{
+    uint32_t out[13], code[3];
+    size_t f = brunskerl_body_faces(LENT, 0, FACES, out, 13, &code[0]);
+    size_t e = brunskerl_body_edges(LENT, 0, EDGES, out, 13, &code[1]);
+    size_t v = brunskerl_body_vertices(LENT, 0, VERTICES, out, 13, &code[2]);
+    for (unsigned k = 0; k < 3; k++)
+        done(code[k], "walk");
+    printf("%zu faces, %zu edges, %zu vertices; the last vertex is %u\n", f, e, v, (unsigned)out[v - 1]);
+    size_t none = brunskerl_body_faces(LENT, 1, FACES, out, 13, &code[0]);
+    printf("faces of body 1: %zu, refused with %u\n", none, (unsigned)code[0]);
+    none = brunskerl_body_vertices(LENT, 0, VERTICES, out, 3, &code[0]);
+    printf("vertices on a list of three: %zu, refused with %u\n", none, (unsigned)code[0]);
+}
+
+static void measured(void)
+{
+    double volume[1], box[6];
+    done(brunskerl_body_volume(LENT, 0, FACES, &volume), "volume");
+    done(brunskerl_body_bounding_box(LENT, 0, VERTICES, &box), "box");
+    printf("volume %g, box (%g, %g, %g) to (%g, %g, %g)\n", volume[0], box[0], box[1], box[2], box[3], box[4], box[5]);
+}
+
+static void report(void)
+{
+    uint32_t list[16], fit[1];
+    size_t counts[3];
+    done(brunskerl_check_body(LENT, 0, 1, 3, EDGES, list, 16, &counts), "check");
+    done(brunskerl_fit_to_saw(LENT, 0, EDGES, &fit), "fit to saw");
+    printf("%zu faults, %zu kept, %zu unchecked, fit to saw: %u\n", counts[0], counts[1], counts[2], (unsigned)fit[0]);
+    for (size_t i = 0; i < counts[1]; i++) {
+        const uint32_t *fault = list + 4 * i;
+        printf("  kind %u, class %u, id %u, reason %u\n", (unsigned)fault[0], (unsigned)fault[1], (unsigned)fault[2], (unsigned)fault[3]);
+    }
+}
+
+static void split(size_t edge, double fraction)
+{
+    uint32_t ids[3];
+    uint32_t number = brunskerl_split_line_edge(LENT, edge, fraction, &ids);
+    printf("split of edge %zu at %g: ", edge, fraction);
+    if (number != 0) {
+        printf("refused with %u\n", (unsigned)number);
+        return;
+    }
+    uint32_t own[1];
+    double at[4], bounds[2];
+    done(brunskerl_vertex(LENT, ids[2], &own, &at), "new vertex");
+    done(brunskerl_edge_parameter_bounds(LENT, ids[1], &bounds), "bounds of the new edge");
+    printf("edge %u from %g to %g, vertex %u at (%g, %g, %g)\n", (unsigned)ids[1], bounds[0], bounds[1], (unsigned)ids[2], at[0], at[1], at[2]);
+}
+
+/* Each record is read and set to what it is; that must leave all memory as it was. */
+static void again(void)
+{
+    uint32_t *before = malloc(n * sizeof *words);
+    double *floats = malloc(m * sizeof *reals);
+    if (before == NULL || floats == NULL)
+        exit(2);
+    memcpy(before, words, n * sizeof *words);
+    memcpy(floats, reals, m * sizeof *reals);
+    uint32_t body[2], region[3], shell[4], face[8], loop[2], fin[4], edge[8], vertex[1], carrier[1];
+    double own[1], at[4], six[6];
+    unsigned records = 0;
+    for (size_t i = 0; brunskerl_body(LENT, i, &body) == 0; i++, records++)
+        done(brunskerl_set_body(LENT, i, WORDS(1, body[0])), "set body");
+    for (size_t i = 0; brunskerl_region(LENT, i, &region) == 0; i++, records++)
+        done(brunskerl_set_region(LENT, i, WORDS(2, region[0], region[1])), "set region");
+    for (size_t i = 0; brunskerl_shell(LENT, i, &shell) == 0; i++, records++)
+        done(brunskerl_set_shell(LENT, i, WORDS(1, shell[0])), "set shell");
+    for (size_t i = 0; brunskerl_face(LENT, i, &face) == 0; i++, records++)
+        done(brunskerl_set_face(LENT, i, WORDS(7, face[0], face[1], face[2], face[3], face[4], face[5], face[6])), "set face");
+    for (size_t i = 0; brunskerl_loop(LENT, i, &loop) == 0; i++, records++)
+        done(brunskerl_set_loop(LENT, i, WORDS(1, loop[0])), "set loop");
+    for (size_t i = 0; brunskerl_fin(LENT, i, &fin) == 0; i++, records++)
+        done(brunskerl_set_fin(LENT, i, WORDS(4, fin[0], fin[1], fin[2], fin[3])), "set fin");
+    for (size_t i = 0; brunskerl_edge(LENT, i, &edge, &own) == 0; i++, records++)
+        done(brunskerl_set_edge(LENT, i, WORDS(7, edge[0], edge[1], edge[2], edge[3], edge[4], edge[5], edge[6]), FLOATS(1, own[0])), "set edge");
+    for (size_t i = 0; brunskerl_vertex(LENT, i, &vertex, &at) == 0; i++, records++)
+        done(brunskerl_set_vertex(LENT, i, WORDS(1, vertex[0]), FLOATS(4, at[0], at[1], at[2], at[3])), "set vertex");
+    for (size_t i = 0; brunskerl_curve(LENT, i, &carrier, &six) == 0; i++, records++)
+        done(brunskerl_set_curve(LENT, i, WORDS(1, carrier[0]), FLOATS(6, six[0], six[1], six[2], six[3], six[4], six[5])), "set curve");
+    for (size_t i = 0; brunskerl_surface(LENT, i, &carrier, &six) == 0; i++, records++)
+        done(brunskerl_set_surface(LENT, i, WORDS(1, carrier[0]), FLOATS(6, six[0], six[1], six[2], six[3], six[4], six[5])), "set surface");
+    int same = memcmp(before, words, n * sizeof *words) == 0 && memcmp(floats, reals, m * sizeof *reals) == 0;
+    printf("%u records set to what they are: %s\n", records, same ? "the memory is as it was" : "the memory has changed");
+    free(before);
+    free(floats);
+}
+
+/* The lists, entry by entry, and single records. */
+static void entries(void)
+{
+    uint32_t entry[1], is[1], ends_of[4], fin[4];
+    double precision[1];
+    done(brunskerl_precision(LENT, &precision), "precision");
+    printf("precision %g\n", precision[0]);
+    done(brunskerl_list_entry(LENT, 6, 0, 3, &entry), "fin 3 of loop 0");
+    done(brunskerl_fin_vertices(LENT, entry[0], &ends_of), "its ends");
+    printf("loop 0 ends with fin %u, from vertex %u to vertex %u\n", (unsigned)entry[0], (unsigned)ends_of[1], (unsigned)ends_of[3]);
+    done(brunskerl_put_entry(LENT, 6, 0, 3, entry[0]), "the same entry put");
+    told("an entry at place 4", brunskerl_put_entry(LENT, 6, 0, 4, entry[0]));
+    told("an entry of list 8", brunskerl_list_entry(LENT, 8, 0, 0, &entry));
+    for (size_t id = 7; id < 9; id++) {
+        done(brunskerl_contains(LENT, 7, id, &is), "contains");
+        printf("vertex %zu: %s\n", id, is[0] ? "there" : "not there");
+    }
+    told("a record of table 8", brunskerl_contains(LENT, 8, 0, &is));
+    done(brunskerl_set_fin_geometry(LENT, 0), "a pcurve");
+    done(brunskerl_fin(LENT, 0, &fin), "fin 0");
+    printf("fin 0 with a pcurve: %u\n", (unsigned)fin[3]);
+    split(uses[0][0], 0.5);
+    done(brunskerl_set_fin(LENT, 0, WORDS(4, fin[0], fin[1], fin[2], 0)), "fin 0 without");
+}
+
+int main(void)
+{
+    uint32_t id[1];
+    lay_out();
+    walks();
+    measured();
+    report();
+    entries();
+    again();
+    split(0, 0);
+    split(0, 1.0 / 4096);
+    split(12, 0.5);
+    split(0, 0.25);
+    walks();
+    measured();
+    report();
+    /* Every table of the split is full now, and so is that of the bodies. */
+    split(1, 0.5);
+    told("a second body", brunskerl_insert_body(LENT, WORDS(1, 3), &id));
+    told("a body of a kind that is none", brunskerl_insert_body(LENT, WORDS(1, 5), &id));
+    again();
+    done(brunskerl_strike_entry(LENT, 6, 0, 4), "the last fin of loop 0 struck");
+    report();
+    told("a word too few", brunskerl_contains(&room, words, n - 1, reals, m, 0, 0, &id));
+    told("an empty model of precision 0", brunskerl_make(LENT, 0));
+    /* An empty body is fit to saw, since nothing is wrong with it: a solid with its void region alone. */
+    done(brunskerl_make(LENT, 0.001), "make");
+    done(brunskerl_insert_body(LENT, WORDS(1, 3), &id), "body");
+    done(brunskerl_insert_region(LENT, WORDS(2, 0, 0), &id), "region");
+    done(brunskerl_append_entry(LENT, 0, 0, 0), "region of the body");
+    report();
+    double volume[1];
+    told("the volume of the empty body", brunskerl_body_volume(LENT, 0, FACES, &volume));
+    clear();
+    return 0;
+}

@@ -1,0 +1,118 @@
+/* How much stack each call takes: `stack` prints the bytes, `stack LIMIT` fails where a call takes more. Each is made on a stack that was painted, and the
+ * lowest byte that has changed tells. No frame depends on the model, and on a whole trial stone each call goes its deepest way. The arguments that
+ * fit into no register and what is left of this program's own frame count with it, some hundred bytes. */
+#define _POSIX_C_SOURCE 200809L
+#include <pthread.h>
+
+#include "stone.h"
+
+enum { SIZE = 1 << 20, PAINT = 0xa5, ABOVE = 128 };
+static _Alignas(4096) unsigned char stack[SIZE];
+
+static uint32_t ids[16], code;
+static size_t counts[3];
+static double floats[6];
+
+#define SLOTS(k) (uint32_t(*)[k]) ids
+#define REALS(k) (double(*)[k]) floats
+#define CALL(name, ...) static void name(void) { brunskerl_##name(LENT, __VA_ARGS__); }
+
+CALL(make, 0.001)
+CALL(precision, REALS(1))
+CALL(body, 0, SLOTS(2))
+CALL(region, 0, SLOTS(3))
+CALL(shell, 0, SLOTS(4))
+CALL(face, 0, SLOTS(8))
+CALL(loop, 0, SLOTS(2))
+CALL(fin, 0, SLOTS(4))
+CALL(edge, 0, SLOTS(8), REALS(1))
+CALL(vertex, 0, SLOTS(1), REALS(4))
+CALL(curve, 0, SLOTS(1), REALS(6))
+CALL(surface, 0, SLOTS(1), REALS(6))
+CALL(insert_body, WORDS(1, 3), SLOTS(1))
+CALL(insert_region, WORDS(2, 0, 0), SLOTS(1))
+CALL(insert_shell, WORDS(1, 0), SLOTS(1))
+CALL(insert_face, WORDS(7, 0, 0, 0, 0, 0, 0, 0), SLOTS(1))
+CALL(insert_loop, WORDS(1, 0), SLOTS(1))
+CALL(insert_fin, WORDS(4, 0, 0, 0, 0), SLOTS(1))
+CALL(insert_edge, WORDS(7, 0, 0, 0, 0, 0, 0, 0), FLOATS(1, 0), SLOTS(1))
+CALL(insert_vertex, WORDS(1, 0), FLOATS(4, 0, 0, 0, 0), SLOTS(1))
+CALL(insert_curve, WORDS(1, 0), FLOATS(6, 0, 0, 0, 1, 0, 0), SLOTS(1))
+CALL(insert_surface, WORDS(1, 1), FLOATS(6, 0, 0, 0, 1, 0, 0), SLOTS(1))
+CALL(set_body, 0, WORDS(1, 3))
+CALL(set_region, 0, WORDS(2, 0, 0))
+CALL(set_shell, 0, WORDS(1, 0))
+CALL(set_face, 0, WORDS(7, 1, 0, 1, 1, 1, 0, 0))
+CALL(set_loop, 0, WORDS(1, 0))
+CALL(set_fin, 0, WORDS(4, 0, 4, 0, 0))
+CALL(set_edge, 0, WORDS(7, 1, 0, 1, 1, 1, 0, 0), FLOATS(1, 0))
+CALL(set_vertex, 0, WORDS(1, 0), FLOATS(4, 0, 0, 0, 0))
+CALL(set_curve, 0, WORDS(1, 0), FLOATS(6, 0, 0, 0, 1, 0, 0))
+CALL(set_surface, 0, WORDS(1, 1), FLOATS(6, 0, 0, 0, 0, 0, -1))
+CALL(set_fin_geometry, 23)
+CALL(contains, 7, 0, SLOTS(1))
+CALL(list_entry, 6, 0, 3, SLOTS(1))
+CALL(put_entry, 6, 0, 3, 3)
+CALL(append_entry, 4, 0, 0)
+CALL(strike_entry, 6, 0, 3)
+CALL(body_faces, 0, FACES, ids, 16, &code)
+CALL(body_edges, 0, EDGES, ids, 16, &code)
+CALL(body_vertices, 0, VERTICES, ids, 16, &code)
+CALL(fin_vertices, 0, SLOTS(4))
+CALL(body_bounding_box, 0, VERTICES, REALS(6))
+CALL(body_volume, 0, FACES, REALS(1))
+CALL(edge_parameter_bounds, 0, REALS(2))
+CALL(split_line_edge, 0, 0.25, SLOTS(3))
+CALL(check_body, 0, 1, 3, EDGES, ids, 16, &counts)
+CALL(fit_to_saw, 0, EDGES, SLOTS(1))
+
+static const struct {
+    const char *name;
+    void (*call)(void);
+} calls[] = {
+#define ROW(name) {#name, name}
+    ROW(precision), ROW(body), ROW(region), ROW(shell), ROW(face), ROW(loop), ROW(fin), ROW(edge), ROW(vertex), ROW(curve), ROW(surface),
+    ROW(insert_body), ROW(insert_region), ROW(insert_shell), ROW(insert_face), ROW(insert_loop), ROW(insert_fin), ROW(insert_edge),
+    ROW(insert_vertex), ROW(insert_curve), ROW(insert_surface), ROW(set_body), ROW(set_region), ROW(set_shell), ROW(set_face),
+    ROW(set_loop), ROW(set_fin), ROW(set_edge), ROW(set_vertex), ROW(set_curve), ROW(set_surface), ROW(set_fin_geometry), ROW(contains),
+    ROW(list_entry), ROW(put_entry), ROW(append_entry), ROW(strike_entry), ROW(body_faces), ROW(body_edges), ROW(body_vertices),
+    ROW(fin_vertices), ROW(body_bounding_box), ROW(body_volume), ROW(edge_parameter_bounds), ROW(split_line_edge), ROW(check_body),
+    ROW(fit_to_saw), ROW(make),
+};
+
+/* Makes the call, and gives how far below this frame it went. */
+static void *taken(void *arg)
+{
+    size_t *k = arg;
+    unsigned char *volatile here = (unsigned char *)&k;
+    for (unsigned char *p = stack; p < here - ABOVE; p++)
+        *(volatile unsigned char *)p = PAINT;
+    calls[*k].call();
+    unsigned char *p = stack;
+    while (p < here && *(volatile unsigned char *)p == PAINT)
+        p++;
+    *k = (size_t)(here - p);
+    return NULL;
+}
+
+int main(int argc, char **argv)
+{
+    size_t limit = argc > 1 ? strtoul(argv[1], NULL, 10) : SIZE, most = 0;
+    for (size_t i = 0; i < sizeof calls / sizeof *calls; i++) {
+        lay_out();
+        size_t k = i;
+        pthread_t thread;
+        pthread_attr_t attributes;
+        if (pthread_attr_init(&attributes) != 0 || pthread_attr_setstack(&attributes, stack, SIZE) != 0)
+            return 2;
+        if (pthread_create(&thread, &attributes, taken, &k) != 0 || pthread_join(thread, NULL) != 0)
+            return 2;
+        clear();
+        most = k > most ? k : most;
+        if (argc == 1 || k > limit)
+            printf("%7zu %s\n", k, calls[i].name);
+    }
+    if (most > limit)
+        printf("a call takes more than %zu bytes of stack\n", limit);
+    return most > limit;
+}
