@@ -60,6 +60,19 @@ unsafe extern "C" {
         l: usize,
         value: *mut [usize; 3],
     ) -> u32;
+    fn brunskerl_fit_to_saw(
+        room: Room,
+        words: *const u32,
+        n: usize,
+        reals: *const f64,
+        m: usize,
+        body: usize,
+        faces: *mut u8,
+        f: usize,
+        edges: *mut u8,
+        e: usize,
+        value: *mut [u32; 1],
+    ) -> u32;
 }
 
 fn numbers<T>(answer: Result<T, u32>, value: impl FnOnce(T) -> Vec<u64>) -> Vec<u64> {
@@ -218,5 +231,32 @@ impl Lent {
         });
         let given = [0, unchecked as u64].into_iter().chain(faults_kept).collect();
         (cleared(&marks[..2], given), faults)
+    }
+
+    /// 1 where the body is fit to saw.
+    pub fn fit(&self, body: usize, mark: u8) -> Vec<u64> {
+        let mut marks = self.marks(mark);
+        let [faces, edges, _] = &mut marks;
+        let mut value = [UNTOUCHED; 1];
+        // SAFETY: as above.
+        let number = unsafe {
+            brunskerl_fit_to_saw(
+                &self.room,
+                self.words.as_ptr(),
+                self.words.len(),
+                self.reals.as_ptr(),
+                self.reals.len(),
+                body,
+                faces.as_mut_ptr(),
+                faces.len(),
+                edges.as_mut_ptr(),
+                edges.len(),
+                &mut value,
+            )
+        };
+        let given = numbers(answer(number, value, value == [UNTOUCHED; 1]), |fit| {
+            fit.map(u64::from).to_vec()
+        });
+        cleared(&marks[..2], given)
     }
 }

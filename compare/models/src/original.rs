@@ -649,23 +649,19 @@ fn by_intervals(report: &Report, tests: &[CurveTest]) -> std::result::Result<Rep
     Ok(report)
 }
 
-/// The report's `unchecked`, then reason, kind, class and id of each fault; or why it is left out.
-/// In words: whether 01's intervals changed it.
-pub fn report(
+/// The Rust's report as 01 has it, and the Rust's own where 01's intervals changed it; or why there is no likeness of it in the Rust.
+fn checked(
     model: &Model,
     names: &Names,
     body: usize,
-    geometry: bool,
-    samples: usize,
-) -> std::result::Result<Told, Why> {
+    options: &CheckOptions,
+) -> std::result::Result<(Result<Report>, Option<Report>), Why> {
     let body = names.bodies[body];
-    let options = CheckOptions {
-        geometry,
-        edge_samples: samples,
-    };
-    let mut words = "as by hypot";
-    let mut answer = check_body(model, body, &options);
-    if geometry && let Ok(report) = &mut answer {
+    let mut answer = check_body(model, body, options);
+    let mut own = None;
+    if options.geometry
+        && let Ok(report) = &mut answer
+    {
         let plain = read(model, names);
         if [plain.curves, plain.surfaces]
             .concat()
@@ -676,10 +672,26 @@ pub fn report(
         }
         let changed = by_intervals(report, &curve_tests(model, body)?)?;
         if changed != *report {
-            words = "changed by intervals";
+            own = Some(std::mem::replace(report, changed));
         }
-        *report = changed;
     }
+    Ok((answer, own))
+}
+
+/// The report's `unchecked`, then reason, kind, class and id of each fault; or why it is left out.
+/// In words: whether 01's intervals changed it.
+pub fn report(
+    model: &Model,
+    names: &Names,
+    body: usize,
+    geometry: bool,
+    samples: usize,
+) -> std::result::Result<Told, Why> {
+    let options = CheckOptions {
+        geometry,
+        edge_samples: samples,
+    };
+    let (answer, own) = checked(model, names, body, &options)?;
     let mut told = told(answer, |report| {
         let faults = report.faults.iter().flat_map(|fault| {
             let (class, id) = entity(fault.entity);
@@ -690,6 +702,27 @@ pub fn report(
             .chain(faults)
             .collect()
     });
-    told.words = words.into();
+    told.words = own.map_or("as by hypot", |_| "changed by intervals").into();
+    Ok(told)
+}
+
+/// Fit to saw: the Rust's own `is_valid` of its default report, which has geometry and three samples; where 01's intervals changed that
+/// report, that of the changed one. In words, also what the Rust says there.
+pub fn verdict(model: &Model, names: &Names, body: usize) -> std::result::Result<Told, Why> {
+    let options = CheckOptions::default();
+    assert!(options.geometry && options.edge_samples == 3);
+    let (answer, own) = checked(model, names, body, &options)?;
+    let fit = |fit: bool| if fit { "fit" } else { "not fit" };
+    let words = match (&answer, own) {
+        (Err(error), _) => format!("refused with {}", error.code() as u64),
+        (Ok(report), None) => fit(report.is_valid()).into(),
+        (Ok(report), Some(own)) => format!(
+            "{} by intervals and {} by hypot",
+            fit(report.is_valid()),
+            fit(own.is_valid())
+        ),
+    };
+    let mut told = told(answer, |report| vec![report.is_valid().into()]);
+    told.words = words;
     Ok(told)
 }

@@ -14,7 +14,7 @@ use models::random::Random;
 use models::{Made, Sort, fraction, made};
 
 /// What a wrong station is, and what it makes of a right answer: of a split, with the memory before and
-/// behind it; of a box or a volume; of a report and the number of its faults.
+/// behind it; of a box or a volume; of a report and the number of its faults; of a verdict about a body.
 type Wrong = (&'static str, How);
 
 #[derive(Clone, Copy)]
@@ -23,6 +23,20 @@ enum How {
     Box(fn(&[u64]) -> Option<Vec<u64>>),
     Volume(fn(&[u64]) -> Option<Vec<u64>>),
     Report(fn(&(Vec<u64>, usize)) -> Option<(Vec<u64>, usize)>),
+    Fit(fn(&Lent, usize, &[u64]) -> Option<Vec<u64>>),
+}
+
+/// What a station would say that found fit to saw by another report: with geometry or not, of so many samples, and by what counts.
+fn fit_by(
+    lent: &Lent,
+    body: usize,
+    (geometry, samples): (bool, usize),
+    counts: fn(usize, u64) -> bool,
+) -> Option<Vec<u64>> {
+    match lent.check(body, geometry, samples, 0, 0) {
+        (given, faults) if given[0] == 0 => Some(vec![0, counts(faults, given[1]).into()]),
+        _ => None,
+    }
 }
 
 /// List j of record i, in the words.
@@ -42,7 +56,7 @@ fn turned(before: &Lent, edge: usize) -> Vec<(u32, u32)> {
     fins.iter().copied().zip(new).filter(negative).collect()
 }
 
-const WRONGS: [Wrong; 15] = [
+const WRONGS: [Wrong; 22] = [
     ("puts every new fin after the old one", How::Split(|before, lent, edge, given| {
         for (old, new) in turned(before, edge) {
             let owner = before.words[before.word_at(5, old as usize)] as usize;
@@ -118,6 +132,27 @@ const WRONGS: [Wrong; 15] = [
         let reason = given.get_mut(2)?;
         *reason = if *reason == 5 { 3 } else { *reason };
         Some((given, *total))
+    })),
+    ("finds every body fit to saw", How::Fit(|_, _, given| {
+        (given[0] == 0).then(|| vec![0, 1])
+    })),
+    ("finds no body fit to saw", How::Fit(|_, _, given| {
+        (given[0] == 0).then(|| vec![0, 0])
+    })),
+    ("finds a body that is not there not fit to saw", How::Fit(|_, _, given| {
+        (given == [2]).then(|| vec![0, 0])
+    })),
+    ("finds fit to saw by the topology alone", How::Fit(|lent, body, _| {
+        fit_by(lent, body, (false, 3), |faults, unchecked| faults == 0 && unchecked == 0)
+    })),
+    ("finds fit to saw without samples", How::Fit(|lent, body, _| {
+        fit_by(lent, body, (true, 0), |faults, unchecked| faults == 0 && unchecked == 0)
+    })),
+    ("finds fit to saw what is unchecked", How::Fit(|lent, body, _| {
+        fit_by(lent, body, (true, 3), |faults, _| faults == 0)
+    })),
+    ("finds fit to saw what has one fault", How::Fit(|lent, body, _| {
+        fit_by(lent, body, (true, 3), |faults, unchecked| faults <= 1 && unchecked == 0)
     })),
 ];
 
@@ -351,6 +386,21 @@ fn reports(
             });
         }
     }
+    for body in 0..=made.plain.bodies.len() {
+        let told = match original::verdict(&made.model, names, body) {
+            Ok(told) => told,
+            Err(why) => {
+                tally.met("verdicts left out", why);
+                continue;
+            }
+        };
+        tally.met("verdict", &told.words);
+        let mut given = lent.fit(body, random.bits() as u8);
+        if let Some(How::Fit(wrong)) = wrong {
+            given = wrong(&lent, body, &given).unwrap_or(given);
+        }
+        tally.same("verdicts", &told.numbers, &given, || format!("body {body}"));
+    }
     // 01's limit: 1, and before 2.
     let body = random.below(made.plain.bodies.len() + 1);
     let samples = random.pick(&[256, 1 << 20, usize::MAX]);
@@ -390,7 +440,7 @@ fn wrongs(names: &Names, count: u64, seed: u64) -> ExitCode {
         let asked = match how {
             How::Split(_) => "splits",
             How::Box(_) | How::Volume(_) => "boxes",
-            How::Report(_) => "reports",
+            How::Report(_) | How::Fit(_) => "reports",
         };
         let mut tally = Tally::quiet();
         let mut number = 0;
