@@ -129,7 +129,8 @@ uint32_t brunskerl_check_body(BRUNSKERL_MEMORY, size_t body, uint32_t geometry, 
 
 /* 1 where the body is fit to saw: geometry checked with three samples, no fault, nothing unchecked; and no more than that. It is 1 for an empty body
  * (a solid with its void region alone, whose volume is refused with 4), for one inside out (whose volume is negative), for a flat one (whose volume
- * is 0), and for one whose own tolerances swallow its errors. Ask for the volume and the box too. */
+ * is 0), for a wire or a sheet (whose volume is refused with 6), and for one whose own tolerances swallow its errors. Ask for the volume and the box
+ * too. */
 uint32_t brunskerl_fit_to_saw(BRUNSKERL_MEMORY, size_t body, uint8_t *faces, size_t f, uint8_t *edges, size_t e, uint32_t (*fit)[1]);
 
 #ifdef __cplusplus

@@ -473,7 +473,8 @@ impl Model {
     /// Geometry checked with three samples to an edge, no fault, and nothing unchecked: 01's rule, and no more than that.
     ///
     /// It is true of an empty body (a solid with its void region alone, whose volume is refused), of one inside out (whose volume is
-    /// negative), of a flat one (whose volume is 0), and of one whose own tolerances swallow its errors. Ask for the volume and the box too.
+    /// negative), of a flat one (whose volume is 0), of a wire or a sheet (whose volume is refused), and of one whose own tolerances swallow its
+    /// errors. Ask for the volume and the box too.
     pub fn fit_to_saw(&self, body: u32) -> Result<bool, Refusal> {
         let [mut f, mut e, _] = self.marks();
         let mut fit = [0];

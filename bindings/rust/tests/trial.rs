@@ -101,8 +101,8 @@ fn contains() {
     assert_eq!(model.contains(Entity::Body(body)), Ok(true));
 }
 
-/// Fit to saw is no fault and nothing unchecked: an empty body is, and one inside out, a flat one, and one whose tolerances swallow
-/// the error. The volume tells the first three.
+/// Fit to saw is no fault and nothing unchecked: an empty body is, and one inside out, a flat one, one that is no solid, and one whose
+/// tolerances swallow the error. The volume tells all but the last.
 #[test]
 fn fit_to_saw_and_no_more() {
     let mut model = Model::new(LARGEST, 0.001).unwrap();
@@ -111,6 +111,9 @@ fn fit_to_saw_and_no_more() {
     model.append(List::RegionsOfBody, empty, region).unwrap();
     assert_eq!(model.fit_to_saw(empty), Ok(true));
     assert_eq!(model.body_volume(empty), Err(Refusal::Degenerate));
+    model.set_body(empty, BodyKind::Wire).unwrap();
+    assert_eq!(model.fit_to_saw(empty), Ok(true));
+    assert_eq!(model.body_volume(empty), Err(Refusal::NotSolid));
 
     let (mut turned, body) = stone();
     for id in turned.body_faces(body).unwrap() {
