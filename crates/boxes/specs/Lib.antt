@@ -1,4 +1,3 @@
 pub mod Answers
-pub mod Statements
 pub mod Walked
 pub mod Laws

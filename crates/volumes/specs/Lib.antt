@@ -1,4 +1,3 @@
 pub mod Answers
-pub mod Statements
 pub mod Told
 pub mod Laws

@@ -1,0 +1,77 @@
+-- The eight lists by number are the model's lists, and the lookup of an entry answers with theirs. Assumes nothing.
+use Prim.Native.Nat.{ℕ, zero, suc, _<_}
+use native.Mathlib.Omega.{arith}
+use mathlib.Core.Path.{_≡_, refl, ap, _∙_}
+use mathlib.Core.Bool.{Bool, true, false}
+use mathlib.Core.List.{List, [], _∷_}
+use lib.Dec.{ltb}
+use lib.ListN.{length, getD}
+use lib.Ieee.{Float}
+use borrow.Author.Tests.{ltb-true}
+use Rattle.geometry.specs.Refuse.{_unless_, _then_, answer}
+use Rattle.meaning.specs.Model.{Model, has, body, region, shell, face, loop, edge}
+use Rattle.meaning.specs.Refuse.{Answer, answered}
+use Rattle.model.specs.declared.entries.Entry.the-variants.{Is, Refused}
+use Rattle.model.specs.Layout.{word}
+use Rattle.model.specs.Decode.{decode}
+use Rattle.model.specs.Readable.{readable}
+use Rattle.model.specs.Entries.{listTables, listOf, entryRefusal, entryAnswer}
+use Rattle.named.specs.Shown.{_else_, shown}
+use Rattle.named.specs.Laws.{behind-one}
+
+-- a list of a record: whether the record exists, and the list
+pub record Row : Type 0 where
+  pub there : Bool
+  pub entries : List ℕ
+
+-- the lists of the records under the id i, by number
+abbrev pub rows : Model → ℕ → List Row
+rows m i =
+    record { there = has (m .bodies) i; entries = body m i .regions }
+    ∷ record { there = has (m .regions) i; entries = region m i .shells }
+    ∷ record { there = has (m .shells) i; entries = shell m i .faces }
+    ∷ record { there = has (m .shells) i; entries = shell m i .wireEdges }
+    ∷ record { there = has (m .shells) i; entries = shell m i .acornVertices }
+    ∷ record { there = has (m .faces) i; entries = face m i .loops }
+    ∷ record { there = has (m .loops) i; entries = loop m i .fins }
+    ∷ record { there = has (m .edges) i; entries = edge m i .fins }
+    ∷ []
+
+abbrev pub row : Model → ℕ → ℕ → Row
+row m j i = getD (rows m i) j (record { there = false; entries = [] })
+
+-- list j of record i, looked up at a place: 1 for a list that there is none of, 2 for a missing record, 1 for a place that isn't there
+abbrev pub placed : Row → ℕ → ℕ
+placed r place = 2 unless (r .there) then 1 unless ltb place (length (r .entries))
+
+abbrev pub entry : Model → ℕ → ℕ → ℕ → Answer ℕ
+entry m j i place = answered (1 unless ltb j 8 then placed (row m j i) place) (getD (row m j i .entries) place 0)
+
+module _ (room w : List ℕ) (x : List Float) where
+  -- list j of record i, and whether there is the record
+  pub list-is : (j i : ℕ) → j < 8 → record { there = ltb i (word w (word listTables j)); entries = listOf room w j i } ≡ row (decode room w x) j i
+  unfolding listOf decode
+  list-is zero i h = refl
+  list-is (suc zero) i h = refl
+  list-is (suc (suc zero)) i h = refl
+  list-is (suc (suc (suc zero))) i h = refl
+  list-is (suc (suc (suc (suc zero)))) i h = refl
+  list-is (suc (suc (suc (suc (suc zero))))) i h = refl
+  list-is (suc (suc (suc (suc (suc (suc zero)))))) i h = refl
+  list-is (suc (suc (suc (suc (suc (suc (suc zero))))))) i h = refl
+  list-is (suc (suc (suc (suc (suc (suc (suc (suc j)))))))) i h = absurd (omega arith)
+
+  pub entry-is : (j i place : ℕ) → entryAnswer room w x j i place ≡ shown Is Refused (9 unless readable room w x else entry (decode room w x) j i place)
+  unfolding entryAnswer entryRefusal
+  entry-is j i place = go (ltb j 8) (ltb-true j 8)
+    where
+      go : (b : Bool) → (b ≡ true → j < 8)
+          → answer Is Refused (9 unless readable room w x then 1 unless b then 2 unless ltb i (word w (word listTables j)) then 1 unless ltb place (length (listOf room w j i)))
+          (word (listOf room w j i) place)
+          ≡ shown Is Refused
+          (9 unless readable room w x else answered (1 unless b then placed (row (decode room w x) j i) place) (getD (row (decode room w x) j i .entries) place 0))
+      go true h =
+          let r = row (decode room w x) j i in
+          ap (λ (r : Row). answer Is Refused (9 unless readable room w x then placed r place) (word (r .entries) place)) (list-is j i (h refl))
+          ∙ behind-one Is Refused (λ v. v) (9 unless readable room w x) (placed r place) (word (r .entries) place)
+      go false h = behind-one Is Refused (λ v. v) (9 unless readable room w x) 1 (word (listOf room w j i) place)

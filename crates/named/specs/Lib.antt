@@ -1,0 +1,6 @@
+pub mod Shown
+pub mod Laws
+pub mod Statements
+pub mod Entries
+pub mod Limits
+pub mod Tables
