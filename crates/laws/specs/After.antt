@@ -91,10 +91,19 @@ pub went-to : (x : Limits) (m : Model) (e : ℕ) (t : Float) (n : ℕ) → split
 unfolding modelAfter
 went-to x m e t n h = rw h
 
-pub bodies-kept : (x : Limits) (m : Model) (e : ℕ) (t : Float) → modelAfter x m e t .bodies ≡ m .bodies
-unfolding modelAfter afterSplit
-bodies-kept x m e t = go (splitRefusal x m e t)
+-- what an accepted split leaves as it was, any split leaves
+pub part-kept : {A : Type 0} (of : Model → A) (x : Limits) (m : Model) (e : ℕ) (t : Float) → of (afterSplit m e t) ≡ of m → of (modelAfter x m e t) ≡ of m
+unfolding modelAfter
+part-kept of x m e t h = go (splitRefusal x m e t)
   where
-    go : (n : ℕ) → whereAccepted n m (afterSplit m e t) .bodies ≡ m .bodies
-    go zero = refl
+    go : (n : ℕ) → of (whereAccepted n m (afterSplit m e t)) ≡ of m
+    go zero = h
     go (suc n) = refl
+
+pub bodies-kept : (x : Limits) (m : Model) (e : ℕ) (t : Float) → modelAfter x m e t .bodies ≡ m .bodies
+unfolding afterSplit
+bodies-kept x m e t = part-kept (λ n. n .bodies) x m e t refl
+
+pub shells-kept : (x : Limits) (m : Model) (e : ℕ) (t : Float) → modelAfter x m e t .shells .used ≡ m .shells .used
+unfolding afterSplit changed
+shells-kept x m e t = part-kept (λ n. n .shells .used) x m e t refl

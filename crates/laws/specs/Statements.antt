@@ -15,7 +15,7 @@ use Rattle.laws.specs.Decided.{decided, facts-pass}
 use Rattle.laws.specs.Kept.{splits-keep}
 use Rattle.laws.specs.Rows.{splitRows, Passes, RefusedAt}
 use Rattle.laws.specs.Refusals.{refused-where, accepted-where, accepted-only, one-row, answered-given, row-of-answer, refused-keeps}
-use Rattle.laws.specs.Struck.{splits-restore, restored-whole}
+use Rattle.laws.specs.Struck.{splits-restore, carriers-kept, restored-whole}
 use Rattle.laws.specs.Gained.{walked, split-adds-one, new-wire-after, split-leaves-others, euler-kept}
 use Rattle.laws.specs.Report.{reports-kept}
 
@@ -59,6 +59,10 @@ gives-back x m l w = restored-whole m (afterAll x m l) (splitEdges x m l) (w .id
 
 pub gives-back-any : (x : Limits) (m : Model) (l : List Cut) → Restored m (afterAll x m l) (splitEdges x m l) struckFrom
 gives-back-any = splits-restore
+
+-- (of curves and surfaces the slots too that nobody reads)
+pub carriers-stay : (x : Limits) (m : Model) (l : List Cut) → (afterAll x m l .curves ≡ m .curves) × (afterAll x m l .surfaces ≡ m .surfaces)
+carriers-stay = carriers-kept
 
 -- and what was added to a list of wire edges stands right after the old edge (of a new fin 1 tells: every fin ends where the next starts)
 pub wire-edge-follows : (x : Limits) (m : Model) (e : ℕ) (t : Float) (r : EdgeSplit)

@@ -16,7 +16,7 @@ use Rattle.meaning.specs.Formed.{StoredIds}
 use Rattle.laws.specs.Terms.{sifted, struckFrom, itself, splitEdges, Restored}
 use Rattle.lists.specs.Tests.{and-both}
 use Rattle.lists.specs.Lists.{member-front-none, member-back-none, member-front}
-use Rattle.laws.specs.After.{withNewEdge, fin-was, edge-was, edge-was-fins, vertex-was, accepted, went-to}
+use Rattle.laws.specs.After.{withNewEdge, fin-was, edge-was, edge-was-fins, vertex-was, accepted, went-to, part-kept}
 
 -- ---- sifted
 
@@ -97,6 +97,8 @@ module _ (m : Model) where
         edge-curve = λ i h. refl;
         edge-tolerance = λ i h. refl;
         vertex-whole = λ i h. refl;
+        curve-whole = λ i h. refl;
+        surface-whole = λ i h. refl;
         edge-end = λ i h q. refl;
         edge-end-split = λ i h q. absurd (false≢true q);
       }
@@ -178,6 +180,8 @@ module _ (m : Model) (e : ℕ) (t : Float) (he : e < m .edges .used) where
         edge-curve = edge-was m e t (λ r. r .curve) (λ r. refl);
         edge-tolerance = edge-was m e t (λ r. r .tolerance) (λ r. refl);
         vertex-whole = vertex-was m e t;
+        curve-whole = λ i h. refl;
+        surface-whole = λ i h. refl;
         edge-end = end-was;
         edge-end-split = λ i h q. (m .vertices .used, omega arith, end-new i h q);
       }
@@ -208,6 +212,12 @@ module _ (a b c : Model) (s r : List ℕ) (f : Restored a b s struckFrom) (g : R
 
   in-vertices : (i : ℕ) → i < a .vertices .used → i < b .vertices .used
   in-vertices i h = omega arith
+
+  in-curves : (i : ℕ) → i < a .curves .used → i < b .curves .used
+  in-curves i h = rw (f .curves) h
+
+  in-surfaces : (i : ℕ) → i < a .surfaces .used → i < b .surfaces .used
+  in-surfaces i h = rw (f .surfaces) h
 
   end-split : (i : ℕ) → i < a .edges .used → member i (s ++ r) ≡ true → (v : ℕ) × (a .vertices .used ≤ v) × (edge c i .end ≡ some v)
   end-split i h q = by (member i r) refl
@@ -258,6 +268,8 @@ module _ (a b c : Model) (s r : List ℕ) (f : Restored a b s struckFrom) (g : R
         edge-curve = λ i h. g .edge-curve i (in-edges i h) ∙ f .edge-curve i h;
         edge-tolerance = λ i h. g .edge-tolerance i (in-edges i h) ∙ f .edge-tolerance i h;
         vertex-whole = λ i h. g .vertex-whole i (in-vertices i h) ∙ f .vertex-whole i h;
+        curve-whole = λ i h. g .curve-whole i (in-curves i h) ∙ f .curve-whole i h;
+        surface-whole = λ i h. g .surface-whole i (in-surfaces i h) ∙ f .surface-whole i h;
         edge-end = λ i h q. g .edge-end i (in-edges i h) (member-back-none i s r q) ∙ f .edge-end i h (member-front-none i s r q);
         edge-end-split = end-split;
       }
@@ -280,6 +292,16 @@ splits-restore x m (c ∷ l) = go (splitRefusal x m (c .edge) (c .fraction)) ref
         restored-then m (modelAfter x m (c .edge) (c .fraction)) M (c .edge ∷ []) S
         (rw (went-to x m (c .edge) (c .fraction) 0 h) (restored-split m (c .edge) (c .fraction) (accepted x m (c .edge) (c .fraction) h .0))) r
     go (suc n) h r = rw (ne-eqb (suc n) 0 (λ z. omega arith)) (subst (λ k. Restored k M S struckFrom) (went-to x m (c .edge) (c .fraction) (suc n) h) r)
+
+-- curves and surfaces as whole tables, with the slots that nobody reads
+pub carriers-kept : (x : Limits) (m : Model) (l : List Cut) → (afterAll x m l .curves ≡ m .curves) × (afterAll x m l .surfaces ≡ m .surfaces)
+unfolding afterAll afterSplit
+carriers-kept x m [] = (refl, refl)
+carriers-kept x m (c ∷ l) =
+    let rest = carriers-kept x (modelAfter x m (c .edge) (c .fraction)) l in (
+      rest .0 ∙ part-kept (λ n. n .curves) x m (c .edge) (c .fraction) refl,
+      rest .1 ∙ part-kept (λ n. n .surfaces) x m (c .edge) (c .fraction) refl,
+    )
 
 -- ---- where every stored id names a record, there is nothing to strike out of the starting lists
 
@@ -319,6 +341,8 @@ restored-whole m after split ids r =
       edge-curve = r .edge-curve;
       edge-tolerance = r .edge-tolerance;
       vertex-whole = r .vertex-whole;
+      curve-whole = r .curve-whole;
+      surface-whole = r .surface-whole;
       edge-end = r .edge-end;
       edge-end-split = r .edge-end-split;
     }

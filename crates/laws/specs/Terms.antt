@@ -52,8 +52,8 @@ pub record Restored (m after : Model) (split : List ℕ) (start : ℕ → List �
   pub fins : m .fins .used ≤ after .fins .used
   pub edges : m .edges .used ≤ after .edges .used
   pub vertices : m .vertices .used ≤ after .vertices .used
-  pub curves : after .curves ≡ m .curves
-  pub surfaces : after .surfaces ≡ m .surfaces
+  pub curves : after .curves .used ≡ m .curves .used
+  pub surfaces : after .surfaces .used ≡ m .surfaces .used
   -- "Striking out what was added gives back every stored list in its starting order"
   pub body-regions : (i : ℕ) → i < m .bodies .used → struckFrom (m .regions .used) (body after i .regions) ≡ start (m .regions .used) (body m i .regions)
   pub region-shells : (i : ℕ) → i < m .regions .used → struckFrom (m .shells .used) (region after i .shells) ≡ start (m .shells .used) (region m i .shells)
@@ -79,6 +79,8 @@ pub record Restored (m after : Model) (split : List ℕ) (start : ℕ → List �
   pub edge-curve : (i : ℕ) → i < m .edges .used → edge after i .curve ≡ edge m i .curve
   pub edge-tolerance : (i : ℕ) → i < m .edges .used → edge after i .tolerance ≡ edge m i .tolerance
   pub vertex-whole : (i : ℕ) → i < m .vertices .used → vertex after i ≡ vertex m i
+  pub curve-whole : (i : ℕ) → i < m .curves .used → after .curves .slot i ≡ m .curves .slot i
+  pub surface-whole : (i : ℕ) → i < m .surfaces .used → after .surfaces .slot i ≡ m .surfaces .slot i
   -- "but for the end of a split edge", which is a new vertex
   pub edge-end : (i : ℕ) → i < m .edges .used → member i split ≡ false → edge after i .end ≡ edge m i .end
   pub edge-end-split : (i : ℕ) → i < m .edges .used → member i split ≡ true → (v : ℕ) × (m .vertices .used ≤ v) × (edge after i .end ≡ some v)
