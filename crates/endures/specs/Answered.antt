@@ -17,9 +17,13 @@ use Rattle.replies.specs.declared.Split.the-variants.{Is, Refused}
 use Rattle.splits.specs.After.{splitAnswer}
 use Rattle.laws.specs.Terms.{OneMore, SameWalks}
 
-number-given : (k : ℕ) (v r : EdgeSplit) → answer Is Refused k v ≡ Is r → k ≡ 0
+pub number-given : (k : ℕ) (v r : EdgeSplit) → answer Is Refused k v ≡ Is r → k ≡ 0
 number-given zero v r q = refl
 number-given (suc k) v r q = cc
+
+pub number-refused : (k : ℕ) (v : EdgeSplit) (n : ℕ) → answer Is Refused k v ≡ Refused n → k ≡ n
+number-refused zero v n q = absurd (let z : _≡_ {A = ℕ} 0 1 = cc in omega arith)
+number-refused (suc k) v n q = cc
 
 value-given : (k : ℕ) (v r : EdgeSplit) → answer Is Refused k v ≡ Is r → v ≡ r
 value-given zero v r q = cc

@@ -1,8 +1,12 @@
 pub mod Sequence
+pub mod CallRows
 pub mod Same
 pub mod Walked
 pub mod Reported
 pub mod Tested
 pub mod Changed
+pub mod Followed
+pub mod Restored
+pub mod Refused
 pub mod Answered
 pub mod Statements

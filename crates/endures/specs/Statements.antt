@@ -1,10 +1,12 @@
 -- What stays true of the lent memory (demand 3), for any room, words, floats and list of calls of `split_line_edge`, accepted or refused. Assumes nothing.
-use Prim.Native.Nat.{ℕ, _<_}
+use Prim.Native.Nat.{ℕ, suc, _<_}
+use mathlib.Core.Logic.{_↔_}
 use mathlib.Core.Path.{_≡_, ap, _∙_, subst}
 use mathlib.Core.Bool.{true, false}
-use mathlib.Core.List.{List, [], _∷_}
+use mathlib.Core.List.{List, [], _∷_, _++_}
+use lib.ListN.{getD}
 use lib.Ieee.{Float}
-use Rattle.meaning.specs.Model.{Model}
+use Rattle.meaning.specs.Model.{Model, Shell, shell}
 use Rattle.meaning.specs.Refuse.{given}
 use Rattle.meaning.specs.Split.{splitLineEdge, modelAfter, Cut, afterAll}
 use Rattle.meaning.specs.Formed.{WellFormed, topologicalReport, emptyReport, hasEdge}
@@ -12,39 +14,31 @@ use Rattle.model.specs.Layout.{word}
 use Rattle.model.specs.Decode.{decode}
 use Rattle.model.specs.Readable.{readable}
 use Rattle.frame.specs.Change.{SameModel}
-use Rattle.cuts.specs.SplitNumber.{limits}
+use Rattle.cuts.specs.SplitNumber.{limits, splitNumber}
 use Rattle.replies.specs.declared.EdgeSplit.{EdgeSplit}
-use Rattle.replies.specs.declared.Split.the-variants.{Is}
+use Rattle.replies.specs.declared.Split.the-variants.{Is, Refused}
 use Rattle.splits.specs.After.{splitAnswer, splitWords, splitReals}
-use Rattle.laws.specs.Terms.{OneMore, SameWalks, eulerNumber}
-use Rattle.laws.specs.After.{bodies-kept}
+use Rattle.laws.specs.Terms.{itself, splitEdges, Restored, OneMore, SameWalks, eulerNumber}
+use Rattle.laws.specs.Rows.{Passes, RefusedAt}
+use Rattle.laws.specs.After.{bodies-kept, shells-kept}
 use Rattle.laws.specs.Kept.{split-keeps}
-use Rattle.laws.specs.Statements.{stays-well-formed, empty-report-stays, accepted-split-adds-one, accepted-split-leaves-others, euler-number-stays, gives-back-any}
+use Rattle.laws.specs.Refusals.{one-row}
+use Rattle.laws.specs.Statements.{stays-well-formed, empty-report-stays, accepted-split-adds-one, accepted-split-leaves-others, euler-number-stays, gives-back, gives-back-any, wire-edge-follows}
 use Rattle.outcome.specs.Statements.{HoldsModel, same-model, split-model}
-use Rattle.endures.specs.Sequence.{callsWords, callsReals}
-use Rattle.endures.specs.Same.{same-trans, same-formed}
+use Rattle.endures.specs.Sequence.{callsWords, callsReals, callsEdges}
+use Rattle.endures.specs.CallRows.{callRows}
+use Rattle.endures.specs.Same.{same-formed}
 use Rattle.endures.specs.Walked.{walks-same, euler-same}
 use Rattle.endures.specs.Reported.{report-same}
-use Rattle.endures.specs.Changed.{after-same}
-use Rattle.endures.specs.Answered.{call-accepted, call-value, walks-trans, more-same}
+use Rattle.endures.specs.Followed.{Followed, followed}
+use Rattle.endures.specs.Restored.{restored-same}
+use Rattle.endures.specs.Refused.{refused-there, there-refused, accepted-there, there-accepted}
+use Rattle.endures.specs.Answered.{number-given, number-refused, call-accepted, call-value, walks-trans, more-same}
 
 -- the words w and the floats x are readable, and hold a well-formed model
 pub record Sound (room w : List ℕ) (x : List Float) : Type 0 where
   pub readable : readable room w x ≡ true
   pub formed : WellFormed (limits room) (decode room w x)
-
--- each call leaves what `meaning` says of any model n with the same records in use
-holds-after : (room w : List ℕ) (x : List Float) (n : Model) (l : List Cut) → readable room w x ≡ true → SameModel (decode room w x) n → WellFormed (limits room) n
-    → HoldsModel room (callsWords room w x l) (callsReals room w x l) (afterAll (limits room) n l)
-unfolding callsWords callsReals afterAll
-holds-after room w x n [] r s f = record { readable = r; model = s }
-holds-after room w x n (c ∷ l) r s f =
-    let e = c .edge in
-    let t = c .fraction in
-    let h = split-model room w x e t r in
-    holds-after room _ _ (modelAfter (limits room) n e t) l (h .readable)
-    (same-trans _ (modelAfter (limits room) (decode room w x) e t) _ (h .model) (after-same (limits room) (decode room w x) n s f e t))
-    (split-keeps (limits room) n e t f)
 
 module _ (room w : List ℕ) (x : List Float) (l : List Cut) (s : Sound room w x) where
   abbrev before : Model
@@ -53,9 +47,12 @@ module _ (room w : List ℕ) (x : List Float) (l : List Cut) (s : Sound room w x
   abbrev behind : Model
   behind = decode room (callsWords room w x l) (callsReals room w x l)
 
+  calls-followed : Followed room w x before l
+  calls-followed = followed room w x before l (s .readable) (same-model before) (s .formed)
+
   -- the memory holds the model of `laws`' statements, record by record
   pub calls-model : HoldsModel room (callsWords room w x l) (callsReals room w x l) (afterAll (limits room) (decode room w x) l)
-  calls-model = holds-after room w x (decode room w x) l (s .readable) (same-model (decode room w x)) (s .formed)
+  calls-model = calls-followed .holds
 
   after-formed : WellFormed (limits room) (afterAll (limits room) before l)
   after-formed = stays-well-formed (limits room) before l (s .formed)
@@ -83,8 +80,16 @@ module _ (room w : List ℕ) (x : List Float) (l : List Cut) (s : Sound room w x
       (walks-same (limits room) behind (afterAll (limits room) before l) (calls-model .model) after-formed b (still-there b hb))
       ∙ euler-number-stays (limits room) before l (s .formed) b hb
 
--- 4. "An accepted split gives each body that has the edge exactly one more edge and vertex", those that the call answers, and leaves the walks of every other body
-module _ (room w : List ℕ) (x : List Float) (e : ℕ) (t : Float) (s : Sound room w x) (r : EdgeSplit) (a : splitAnswer room w x e t ≡ Is r) (b : ℕ) (hb : b < decode room w x .bodies .used) where
+  -- 4. "Striking out what was added gives back every stored list in its starting order", and every other field of every old record is as it was but for the
+  -- end of an edge that was split (`Restored`: laws/specs/Terms.antt)
+  pub memory-gives-back : Restored (decode room w x) (decode room (callsWords room w x l) (callsReals room w x l)) (callsEdges room w x l) itself
+  memory-gives-back =
+      rw (calls-followed .edges)
+      (restored-same before (afterAll (limits room) before l) behind (calls-model .model) (splitEdges (limits room) before l) itself
+      (gives-back (limits room) before l (s .formed)))
+
+-- an accepted call
+module _ (room w : List ℕ) (x : List Float) (e : ℕ) (t : Float) (s : Sound room w x) (r : EdgeSplit) (a : splitAnswer room w x e t ≡ Is r) where
   abbrev m : Model
   m = decode room w x
 
@@ -94,18 +99,51 @@ module _ (room w : List ℕ) (x : List Float) (e : ℕ) (t : Float) (s : Sound r
   accepted : splitLineEdge (limits room) m e t ≡ given (record { originalEdge = e; newEdge = m .edges .used; vertex = m .vertices .used })
   accepted = rw (call-accepted room w x e t r a (s .readable))
 
-  walks-after : SameWalks (modelAfter (limits room) m e t) after b
-  walks-after =
-      walks-same (limits room) after (modelAfter (limits room) m e t) (split-model room w x e t (s .readable) .model) (split-keeps (limits room) m e t (s .formed)) b
-      (rw (bodies-kept (limits room) m e t) hb)
+  same-after : SameModel after (modelAfter (limits room) m e t)
+  same-after = split-model room w x e t (s .readable) .model
 
-  pub accepted-call-adds-one : hasEdge (decode room w x) b e ≡ true
-      → OneMore (decode room w x) (decode room (splitWords room w x e t) (splitReals room w x e t)) b (r .«new_edge») (r .vertex)
+  -- 5. "A new wire edge stands after the old one": the edge that the call answers
+  pub new-wire-edge-follows : (i : ℕ) → i < decode room w x .shells .used → (k l : List ℕ) → shell (decode room w x) i .wireEdges ≡ k ++ (e ∷ l)
+      → shell (decode room (splitWords room w x e t) (splitReals room w x e t)) i .wireEdges ≡ k ++ (e ∷ r .«new_edge» ∷ l)
   unfolding decode
-  accepted-call-adds-one q =
-      subst (λ (v : EdgeSplit). OneMore m after b (v .«new_edge») (v .vertex)) (call-value room w x e t r a)
-      (more-same m (modelAfter (limits room) m e t) after b (word w 6) (word w 7) (accepted-split-adds-one (limits room) m e t _ (s .formed) accepted b hb q) walks-after)
+  new-wire-edge-follows i h k l q =
+      let still : i < modelAfter (limits room) m e t .shells .used = rw (shells-kept (limits room) m e t) h in
+      ap (λ (v : Shell). v .wireEdges) (same-after .shells .slots i (rw (same-after .shells .used) still))
+      ∙ wire-edge-follows (limits room) m e t _ (s .formed) accepted i h k l q
+      ∙ ap (λ (v : EdgeSplit). k ++ (e ∷ v .«new_edge» ∷ l)) (call-value room w x e t r a)
 
-  pub accepted-call-leaves-others : hasEdge (decode room w x) b e ≡ false → SameWalks (decode room w x) (decode room (splitWords room w x e t) (splitReals room w x e t)) b
-  accepted-call-leaves-others q =
-      walks-trans m (modelAfter (limits room) m e t) after b (accepted-split-leaves-others (limits room) m e t _ (s .formed) accepted b hb q) walks-after
+  -- 6. "An accepted split gives each body that has the edge exactly one more edge and vertex", those that the call answers, and leaves the walks of every other body
+  module _ (b : ℕ) (hb : b < decode room w x .bodies .used) where
+    walks-after : SameWalks (modelAfter (limits room) m e t) after b
+    walks-after =
+        walks-same (limits room) after (modelAfter (limits room) m e t) same-after (split-keeps (limits room) m e t (s .formed)) b
+        (rw (bodies-kept (limits room) m e t) hb)
+
+    pub accepted-call-adds-one : hasEdge (decode room w x) b e ≡ true
+        → OneMore (decode room w x) (decode room (splitWords room w x e t) (splitReals room w x e t)) b (r .«new_edge») (r .vertex)
+    unfolding decode
+    accepted-call-adds-one q =
+        subst (λ (v : EdgeSplit). OneMore m after b (v .«new_edge») (v .vertex)) (call-value room w x e t r a)
+        (more-same m (modelAfter (limits room) m e t) after b (word w 6) (word w 7) (accepted-split-adds-one (limits room) m e t _ (s .formed) accepted b hb q) walks-after)
+
+    pub accepted-call-leaves-others : hasEdge (decode room w x) b e ≡ false → SameWalks (decode room w x) (decode room (splitWords room w x e t) (splitReals room w x e t)) b
+    accepted-call-leaves-others q =
+        walks-trans m (modelAfter (limits room) m e t) after b (accepted-split-leaves-others (limits room) m e t _ (s .formed) accepted b hb q) walks-after
+
+-- 7. "Each refusal comes exactly where its row in 01 says", 9 included, in any memory: a call is refused with n exactly if, at some row, the rows before it pass
+-- and its condition for n holds; that row is one; and a call is accepted exactly if all rows pass (`callRows`: CallRows.antt)
+module _ (room w : List ℕ) (x : List Float) (e : ℕ) (t : Float) where
+  pub call-refused-by-row : (n : ℕ) → (splitAnswer room w x e t ≡ Refused (suc n)) ↔ ((k : ℕ) × RefusedAt (callRows room w x e t) k (suc n))
+  unfolding splitAnswer
+  call-refused-by-row n =
+      (λ q. refused-there room w x e t n (number-refused (splitNumber room w x e t) _ (suc n) q), λ f. rw (there-refused room w x e t (f .0) n (f .1)))
+
+  pub call-refused-at-one-row : (j k n i : ℕ) → RefusedAt (callRows room w x e t) j n → RefusedAt (callRows room w x e t) k i → j ≡ k
+  call-refused-at-one-row = one-row (callRows room w x e t)
+
+  pub call-accepted-by-rows : (splitAnswer room w x e t
+      ≡ Is (record { «original_edge» = e; «new_edge» = decode room w x .edges .used; vertex = decode room w x .vertices .used }))
+      ↔ ((k : ℕ) → Passes (getD (callRows room w x e t) k []))
+  unfolding splitAnswer decode
+  call-accepted-by-rows =
+      (λ q. accepted-there room w x e t (number-given (splitNumber room w x e t) _ _ q), λ p. rw (there-accepted room w x e t p))
