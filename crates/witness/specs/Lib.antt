@@ -1,0 +1,2 @@
+pub mod Evaluated
+pub mod Statements
