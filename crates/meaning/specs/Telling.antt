@@ -8,14 +8,14 @@ use mathlib.Core.Option.{none, some}
 use lib.Ieee.{Float, binary64, neg, toBits}
 use Rattle.geometry.specs.declared.tolerance.Tolerance.the-variants.{Own}
 use Rattle.meaning.specs.Floats.{_/ᶠ_, floatOf}
-use Rattle.meaning.specs.Model.{Model}
+use Rattle.meaning.specs.Model.{Model, positive}
 use Rattle.meaning.specs.Refuse.{given}
-use Rattle.meaning.specs.Walks.{faceWalk, edgeWalk, vertexWalk}
+use Rattle.meaning.specs.Walks.{faceWalk, facesRefusal, edgeWalk, edgesRefusal, vertexWalk, verticesRefusal}
 use Rattle.meaning.specs.Inquire.{boxOf, sideVolume}
-use Rattle.meaning.specs.Split.{test10, onPlane, test11-fin, test13, boundsRefusal, afterSplit, modelAfter}
-use Rattle.meaning.specs.Faults.{Finding, skipped, fault, sampleAt, curveTest, otherRing, findings, checkRefusal, fitToSaw}
-use Rattle.meaning.specs.Stone.{at, right, up, line, plane, anEdge, aLoop, stone}
-use Rattle.meaning.specs.Blade.{blade, withLoop, withVertex, withCurve, withSurface, quarter, onAxis, asSolid, edgeIs, endsAre, finsAre, faceIs, shellIs, otherCurve, otherSurface, tolerantEdge, askew, room}
+use Rattle.meaning.specs.Split.{test10, onPlane, test11-fin, test13, boundsRefusal, afterSplit, modelAfter, afterAll}
+use Rattle.meaning.specs.Faults.{Finding, skipped, fault, sampleAt, curveTest, sampleTests, carried, findings, reportOf, checkRefusal, counts, fitToSaw, otherRing}
+use Rattle.meaning.specs.Stone.{at, plane, up, corner, stone, right, line, anEdge, aLoop}
+use Rattle.meaning.specs.Blade.{blade, withRegion, withShell, withLoop, withFin, withVertex, withSurface, quarter, onAxis, asSolid, edgeIs, endsAre, curveIs, finsAre, faceIs, loopsAre, shellIs, startAt, endAt, otherCurve, otherSurface, tolerantEdge, askew, room, withCurve, regionsAre}
 use Rattle.meaning.specs.Computing.{computing}
 
 -- ---- walks
@@ -34,6 +34,36 @@ wire-edges-behind = refl
 start-then-end : vertexWalk blade 0 ≡ 0 ∷ 1 ∷ []
 unfolding computing
 start-then-end = refl
+
+-- the refusals of the three walks
+abbrev walked : Model → List ℕ
+walked m = facesRefusal m 0 ∷ edgesRefusal m 0 ∷ verticesRefusal m 0 ∷ []
+
+-- what a walk follows must be there: a region, a shell; a face, a loop, a fin; the edge of a fin, a wire edge
+followed : map walked
+    (regionsAre (9 ∷ []) blade
+    ∷ withRegion 0 (record { body = 0; solid = false; shells = 9 ∷ [] }) blade
+    ∷ shellIs 0 (9 ∷ []) [] [] blade
+    ∷ loopsAre (9 ∷ []) blade
+    ∷ withLoop 0 (record { face = 0; fins = 9 ∷ [] }) blade
+    ∷ withFin 0 (record { owner = 0; edge = 9; sense = positive; pcurve = false }) blade
+    ∷ shellIs 0 [] (9 ∷ []) [] blade
+    ∷ [])
+    ≡ (2 ∷ 2 ∷ 2 ∷ [])
+    ∷ (2 ∷ 2 ∷ 2 ∷ [])
+    ∷ (0 ∷ 2 ∷ 2 ∷ [])
+    ∷ (0 ∷ 2 ∷ 2 ∷ [])
+    ∷ (0 ∷ 2 ∷ 2 ∷ [])
+    ∷ (0 ∷ 0 ∷ 2 ∷ [])
+    ∷ (0 ∷ 0 ∷ 2 ∷ [])
+    ∷ []
+unfolding computing
+followed = refl
+
+-- and what it only lists need not: an end, an acorn vertex
+listed-only : map walked (blade ∷ endsAre (some 9) none blade ∷ shellIs 0 [] [] (9 ∷ []) blade ∷ []) ≡ (0 ∷ 0 ∷ 0 ∷ []) ∷ (0 ∷ 0 ∷ 0 ∷ []) ∷ (0 ∷ 0 ∷ 0 ∷ []) ∷ []
+unfolding computing
+listed-only = refl
 
 -- ---- box and volume
 
@@ -102,6 +132,11 @@ whole-or-nothing : map (λ x. modelAfter x (finsAre [] blade) 0 quarter .vertice
 unfolding computing
 whole-or-nothing = refl
 
+-- the second of two splits is asked of the model that the first one left, and splits the edge that it made
+one-after-the-other : afterAll (room 2 3 4 1 2 2) (finsAre [] blade) (record { edge = 0; fraction = quarter } ∷ record { edge = 1; fraction = quarter } ∷ []) .vertices .used ≡ 4
+unfolding computing
+one-after-the-other = refl
+
 -- ---- reports
 
 -- samples, then the body
@@ -121,6 +156,38 @@ front-shell-alone = refl
 no-walk-no-edge : topology (asSolid (finsAre (0 ∷ []) (withLoop 0 (aLoop 0 (0 ∷ 9 ∷ [])) blade))) ≡ fault 13 0 ∷ []
 unfolding computing
 no-walk-no-edge = refl
+
+-- each reason at its place: a shell, a face, a loop and a fin that point elsewhere, no surface, and of each fin no curve
+pointing-elsewhere : findings
+    (withShell 0 (record { region = 9; faces = 0 ∷ []; wireEdges = []; acornVertices = [] })
+    (faceIs none (some 9) (0 ∷ []) none
+    (withLoop 0 (record { face = 9; fins = 0 ∷ 1 ∷ [] })
+    (withFin 0 (record { owner = 9; edge = 0; sense = positive; pcurve = false }) (curveIs none blade)))))
+    (record { geometry = true; edgeSamples = 0 })
+    0
+    ≡ map (λ n. fault n 0) (6 ∷ 8 ∷ 9 ∷ 11 ∷ 14 ∷ 21 ∷ 21 ∷ [])
+unfolding computing
+pointing-elsewhere = refl
+
+empty-loop : topology (withLoop 0 (record { face = 0; fins = [] }) blade) ≡ fault 12 0 ∷ []
+unfolding computing
+empty-loop = refl
+
+-- start, then end; of each the curve, then the surface; then the sample: all are off a plane above, the ends off the line too
+ends-then-samples : carried (startAt (corner 2) (endAt (corner 3) (withSurface 0 (plane (corner 4) up) blade))) 1 0 (some 0) (some 0)
+    ≡ fault 22 0 ∷ fault 23 0 ∷ fault 22 1 ∷ fault 23 1 ∷ fault 24 0 ∷ []
+unfolding computing
+ends-then-samples = refl
+
+-- samples only if both ends exist: the end is none, is missing, is there
+between-both-ends : map (λ b. sampleTests (endsAre (some 0) b (otherSurface blade)) 1 0 0 0) (none ∷ some 9 ∷ some 1 ∷ []) ≡ [] ∷ [] ∷ (skipped ∷ []) ∷ []
+unfolding computing
+between-both-ends = refl
+
+-- every fault counts, as many are kept as fit, and a check not made is no fault
+counted : counts 2 (reportOf (fault 12 0 ∷ skipped ∷ fault 13 0 ∷ fault 14 0 ∷ [])) ≡ record { faults = 3; kept = 2; unchecked = 1 }
+unfolding computing
+counted = refl
 
 -- a start just at the sum of both tolerances: a check not made
 unresolved : curveTest (tolerantEdge quarter (withVertex 0 (record { point = at (floatOf 0) (floatOf 1 /ᶠ floatOf 2) (floatOf 0); tolerance = Own quarter }) blade)) 0 0 0 ≡ skipped ∷ []
