@@ -1,8 +1,8 @@
--- A model laid out in words and floats, and a record of each shape that decodes to what was laid out, by evaluation. Assumes nothing.
-use Prim.Native.Nat.{ℕ}
+-- A model laid out in words and floats, a record of each shape that decodes to what was laid out, and the tags that are known, by evaluation. Assumes nothing.
+use Prim.Native.Nat.{ℕ, suc}
 use mathlib.Core.Path.{_≡_, refl}
-use mathlib.Core.Bool.{Bool, true, cond}
-use mathlib.Core.List.{List, [], _∷_, _++_}
+use mathlib.Core.Bool.{Bool, true, false, cond}
+use mathlib.Core.List.{List, [], _∷_, _++_, map}
 use mathlib.Core.Option.{Option, none, some}
 use lib.ListN.{length, take, replicate}
 use lib.Ieee.{Float}
@@ -15,7 +15,9 @@ use Rattle.store.specs.declared.Carrier.{Carrier}
 use Rattle.store.specs.declared.Carrier.the-variants as Carriers
 use Rattle.meaning.specs.Lists.{run, joined}
 use Rattle.meaning.specs.Model.{Model, Table, BodyKind, acorn, wire, sheet, solid, general, Sense, positive, negative, Body, Region, Shell, Face, Loop, Fin, Edge, Vertex}
+use Rattle.meaning.specs.Computing.{computing}
 use Rattle.model.specs.Decode.{listAt, shellOf, faceOf, finOf}
+use Rattle.model.specs.Readable.{bodyOk, regionOk, faceOk, finOk, edgeOk, vertexOk, carrierOk}
 
 -- ---- a record as words and floats
 
@@ -120,3 +122,25 @@ face-decodes = refl
 
 pub fin-decodes : finOf (1 ∷ 2 ∷ sense positive ∷ bit true ∷ []) ≡ record { owner = 1; edge = 2; sense = positive; pcurve = true }
 fin-decodes = refl
+
+-- ---- 01, "an unknown tag": words that are 0 but for the one at the place k, which has the last known tag n, or the one behind it
+
+abbrev tagged : (List ℕ → Bool) → ℕ → ℕ → List Bool
+tagged ok k n = map (λ v. ok (replicate k 0 ++ (v ∷ []))) (n ∷ suc n ∷ [])
+
+-- own tolerances of 0
+abbrev zeros : List Float
+zeros = replicate 4 zeroF
+
+-- a body's kind; a region's mark; of a face front, back, surface, sense; of a fin sense, pcurve mark; of an edge start, end, curve, tolerance; a vertex's tolerance; a carrier
+tags-known : tagged bodyOk 0 4
+    ∷ tagged regionOk 1 1
+    ∷ tagged faceOk 0 1 ∷ tagged faceOk 2 1 ∷ tagged faceOk 4 1 ∷ tagged faceOk 6 1
+    ∷ tagged finOk 2 1 ∷ tagged finOk 3 1
+    ∷ tagged (λ w. edgeOk w zeros) 0 1 ∷ tagged (λ w. edgeOk w zeros) 2 1 ∷ tagged (λ w. edgeOk w zeros) 4 1 ∷ tagged (λ w. edgeOk w zeros) 6 1
+    ∷ tagged (λ w. vertexOk w zeros) 0 1
+    ∷ tagged carrierOk 0 2
+    ∷ []
+    ≡ replicate 14 (true ∷ false ∷ [])
+unfolding computing
+tags-known = refl
