@@ -10,8 +10,11 @@ use forms::tags::point_of;
 use inserts::insert_edge;
 use inserts::insert_vertex;
 ghost use mathlib.Core.Path.{_≡_};
-ghost use Rattle.edits.specs.Answers.{insertAnswer, insertWords, insertReals};
-ghost use Rattle.crossings.specs.Crossing.{insertedNumber, insertedSlots};
+ghost use mathlib.Core.List.{[], _∷_};
+ghost use Rattle.model.specs.Layout.{word};
+ghost use Rattle.frame.specs.Put.{unlessRefused};
+ghost use Rattle.edits.specs.Answers.{insertNumber, insertWords, insertReals};
+ghost use Rattle.lent.specs.Lent.{was, lent};
 ghost use Rattle.crossings.specs.Given.{edgeGood, vertexGood, edgeGiven, vertexGiven, edgeOwn, vertexOwn};
 
 pub fn edge(
@@ -22,10 +25,10 @@ pub fn edge(
     floats: &[f64; 1],
     id: &mut [u32; 1],
 ) -> u32
-    ensures answer { λ r. ⌜ r ≡ insertedNumber (insertAnswer (now (room .entry)) (now (words .entry)) (now (reals .entry)) (edgeGood (now (value .entry)) (now (floats .entry))) 6) ⌝ }
-    ensures slots { λ _. ⌜ now (id .exit) ≡ insertedSlots (insertAnswer (now (room .entry)) (now (words .entry)) (now (reals .entry)) (edgeGood (now (value .entry)) (now (floats .entry))) 6) (now (id .entry)) ⌝ }
-    ensures tables { λ _. ⌜ now (words .exit) ≡ insertWords (now (room .entry)) (now (words .entry)) (now (reals .entry)) (edgeGood (now (value .entry)) (now (floats .entry))) 6 (edgeGiven (now (value .entry)) (now (floats .entry))) ⌝ }
-    ensures floats { λ _. ⌜ now (reals .exit) ≡ insertReals (now (room .entry)) (now (words .entry)) (now (reals .entry)) (edgeGood (now (value .entry)) (now (floats .entry))) 6 (edgeOwn (now (value .entry)) (now (floats .entry))) ⌝ }
+    ensures answer { λ r. ⌜ r ≡ lent insertNumber room words reals (edgeGood (was value) (was floats)) 6 ⌝ }
+    ensures slots { λ r. ⌜ now (id .exit) ≡ unlessRefused r (word (was words) 6 ∷ []) (was id) ⌝ }
+    ensures tables { λ _. ⌜ now (words .exit) ≡ lent insertWords room words reals (edgeGood (was value) (was floats)) 6 (edgeGiven (was value) (was floats)) ⌝ }
+    ensures floats { λ _. ⌜ now (reals .exit) ≡ lent insertReals room words reals (edgeGood (was value) (was floats)) 6 (edgeOwn (was value) (was floats)) ⌝ }
 {
     if !face_known(value) {
         return unknown_tag(room, &words[..], &reals[..]);
@@ -48,10 +51,10 @@ pub fn vertex(
     floats: &[f64; 4],
     id: &mut [u32; 1],
 ) -> u32
-    ensures answer { λ r. ⌜ r ≡ insertedNumber (insertAnswer (now (room .entry)) (now (words .entry)) (now (reals .entry)) (vertexGood (now (value .entry)) (now (floats .entry))) 7) ⌝ }
-    ensures slots { λ _. ⌜ now (id .exit) ≡ insertedSlots (insertAnswer (now (room .entry)) (now (words .entry)) (now (reals .entry)) (vertexGood (now (value .entry)) (now (floats .entry))) 7) (now (id .entry)) ⌝ }
-    ensures tables { λ _. ⌜ now (words .exit) ≡ insertWords (now (room .entry)) (now (words .entry)) (now (reals .entry)) (vertexGood (now (value .entry)) (now (floats .entry))) 7 (vertexGiven (now (value .entry)) (now (floats .entry))) ⌝ }
-    ensures floats { λ _. ⌜ now (reals .exit) ≡ insertReals (now (room .entry)) (now (words .entry)) (now (reals .entry)) (vertexGood (now (value .entry)) (now (floats .entry))) 7 (vertexOwn (now (value .entry)) (now (floats .entry))) ⌝ }
+    ensures answer { λ r. ⌜ r ≡ lent insertNumber room words reals (vertexGood (was value) (was floats)) 7 ⌝ }
+    ensures slots { λ r. ⌜ now (id .exit) ≡ unlessRefused r (word (was words) 7 ∷ []) (was id) ⌝ }
+    ensures tables { λ _. ⌜ now (words .exit) ≡ lent insertWords room words reals (vertexGood (was value) (was floats)) 7 (vertexGiven (was value) (was floats)) ⌝ }
+    ensures floats { λ _. ⌜ now (reals .exit) ≡ lent insertReals room words reals (vertexGood (was value) (was floats)) 7 (vertexOwn (was value) (was floats)) ⌝ }
 {
     if !own_known(value) {
         return unknown_tag(room, &words[..], &reals[..]);

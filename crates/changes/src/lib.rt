@@ -22,6 +22,7 @@ ghost use mathlib.Core.Path.{_≡_};
 ghost use mathlib.Core.Bool.{true};
 ghost use mathlib.Core.List.{[]};
 ghost use Rattle.edits.specs.Answers.{editNumber, editWords, editReals};
+ghost use Rattle.lent.specs.Lent.{was, lent};
 ghost use Rattle.crossings.specs.Given.{bodyKnown, regionKnown, carrierKnown, edgeGood, vertexGood, bodyGiven, regionGiven, shellGiven, loopGiven, edgeGiven, vertexGiven, carrierGiven, edgeOwn, vertexOwn, carrierOwn};
 
 pub fn body(
@@ -31,9 +32,9 @@ pub fn body(
     id: usize,
     value: &[u32; 1],
 ) -> u32
-    ensures answer { λ r. ⌜ r ≡ editNumber (now (room .entry)) (now (words .entry)) (now (reals .entry)) (bodyKnown (now (value .entry))) 0 id ⌝ }
-    ensures tables { λ _. ⌜ now (words .exit) ≡ editWords (now (room .entry)) (now (words .entry)) (now (reals .entry)) (bodyKnown (now (value .entry))) 0 id 0 (bodyGiven (now (value .entry))) ⌝ }
-    ensures floats { λ _. ⌜ now (reals .exit) ≡ editReals (now (room .entry)) (now (words .entry)) (now (reals .entry)) (bodyKnown (now (value .entry))) 0 id [] ⌝ }
+    ensures answer { λ r. ⌜ r ≡ lent editNumber room words reals (bodyKnown (was value)) 0 id ⌝ }
+    ensures tables { λ _. ⌜ now (words .exit) ≡ lent editWords room words reals (bodyKnown (was value)) 0 id 0 (bodyGiven (was value)) ⌝ }
+    ensures floats { λ _. ⌜ now (reals .exit) ≡ lent editReals room words reals (bodyKnown (was value)) 0 id [] ⌝ }
 {
     if !body_known(value) {
         return unknown_tag(room, &words[..], &reals[..]);
@@ -49,9 +50,9 @@ pub fn region(
     id: usize,
     value: &[u32; 2],
 ) -> u32
-    ensures answer { λ r. ⌜ r ≡ editNumber (now (room .entry)) (now (words .entry)) (now (reals .entry)) (regionKnown (now (value .entry))) 1 id ⌝ }
-    ensures tables { λ _. ⌜ now (words .exit) ≡ editWords (now (room .entry)) (now (words .entry)) (now (reals .entry)) (regionKnown (now (value .entry))) 1 id 0 (regionGiven (now (value .entry))) ⌝ }
-    ensures floats { λ _. ⌜ now (reals .exit) ≡ editReals (now (room .entry)) (now (words .entry)) (now (reals .entry)) (regionKnown (now (value .entry))) 1 id [] ⌝ }
+    ensures answer { λ r. ⌜ r ≡ lent editNumber room words reals (regionKnown (was value)) 1 id ⌝ }
+    ensures tables { λ _. ⌜ now (words .exit) ≡ lent editWords room words reals (regionKnown (was value)) 1 id 0 (regionGiven (was value)) ⌝ }
+    ensures floats { λ _. ⌜ now (reals .exit) ≡ lent editReals room words reals (regionKnown (was value)) 1 id [] ⌝ }
 {
     if !region_known(value) {
         return unknown_tag(room, &words[..], &reals[..]);
@@ -66,9 +67,9 @@ pub fn shell(
     id: usize,
     value: &[u32; 1],
 ) -> u32
-    ensures answer { λ r. ⌜ r ≡ editNumber (now (room .entry)) (now (words .entry)) (now (reals .entry)) true 2 id ⌝ }
-    ensures tables { λ _. ⌜ now (words .exit) ≡ editWords (now (room .entry)) (now (words .entry)) (now (reals .entry)) true 2 id 0 (shellGiven (now (value .entry))) ⌝ }
-    ensures floats { λ _. ⌜ now (reals .exit) ≡ editReals (now (room .entry)) (now (words .entry)) (now (reals .entry)) true 2 id [] ⌝ }
+    ensures answer { λ r. ⌜ r ≡ lent editNumber room words reals true 2 id ⌝ }
+    ensures tables { λ _. ⌜ now (words .exit) ≡ lent editWords room words reals true 2 id 0 (shellGiven (was value)) ⌝ }
+    ensures floats { λ _. ⌜ now (reals .exit) ≡ lent editReals room words reals true 2 id [] ⌝ }
 {
     set_shell(room, words, reals, id, value[0])
 }
@@ -80,9 +81,9 @@ pub fn loop_(
     id: usize,
     value: &[u32; 1],
 ) -> u32
-    ensures answer { λ r. ⌜ r ≡ editNumber (now (room .entry)) (now (words .entry)) (now (reals .entry)) true 4 id ⌝ }
-    ensures tables { λ _. ⌜ now (words .exit) ≡ editWords (now (room .entry)) (now (words .entry)) (now (reals .entry)) true 4 id 0 (loopGiven (now (value .entry))) ⌝ }
-    ensures floats { λ _. ⌜ now (reals .exit) ≡ editReals (now (room .entry)) (now (words .entry)) (now (reals .entry)) true 4 id [] ⌝ }
+    ensures answer { λ r. ⌜ r ≡ lent editNumber room words reals true 4 id ⌝ }
+    ensures tables { λ _. ⌜ now (words .exit) ≡ lent editWords room words reals true 4 id 0 (loopGiven (was value)) ⌝ }
+    ensures floats { λ _. ⌜ now (reals .exit) ≡ lent editReals room words reals true 4 id [] ⌝ }
 {
     set_loop(room, words, reals, id, value[0])
 }
@@ -95,9 +96,9 @@ pub fn edge(
     value: &[u32; 7],
     floats: &[f64; 1],
 ) -> u32
-    ensures answer { λ r. ⌜ r ≡ editNumber (now (room .entry)) (now (words .entry)) (now (reals .entry)) (edgeGood (now (value .entry)) (now (floats .entry))) 6 id ⌝ }
-    ensures tables { λ _. ⌜ now (words .exit) ≡ editWords (now (room .entry)) (now (words .entry)) (now (reals .entry)) (edgeGood (now (value .entry)) (now (floats .entry))) 6 id 0 (edgeGiven (now (value .entry)) (now (floats .entry))) ⌝ }
-    ensures floats { λ _. ⌜ now (reals .exit) ≡ editReals (now (room .entry)) (now (words .entry)) (now (reals .entry)) (edgeGood (now (value .entry)) (now (floats .entry))) 6 id (edgeOwn (now (value .entry)) (now (floats .entry))) ⌝ }
+    ensures answer { λ r. ⌜ r ≡ lent editNumber room words reals (edgeGood (was value) (was floats)) 6 id ⌝ }
+    ensures tables { λ _. ⌜ now (words .exit) ≡ lent editWords room words reals (edgeGood (was value) (was floats)) 6 id 0 (edgeGiven (was value) (was floats)) ⌝ }
+    ensures floats { λ _. ⌜ now (reals .exit) ≡ lent editReals room words reals (edgeGood (was value) (was floats)) 6 id (edgeOwn (was value) (was floats)) ⌝ }
 {
     if !face_known(value) {
         return unknown_tag(room, &words[..], &reals[..]);
@@ -117,9 +118,9 @@ pub fn vertex(
     value: &[u32; 1],
     floats: &[f64; 4],
 ) -> u32
-    ensures answer { λ r. ⌜ r ≡ editNumber (now (room .entry)) (now (words .entry)) (now (reals .entry)) (vertexGood (now (value .entry)) (now (floats .entry))) 7 id ⌝ }
-    ensures tables { λ _. ⌜ now (words .exit) ≡ editWords (now (room .entry)) (now (words .entry)) (now (reals .entry)) (vertexGood (now (value .entry)) (now (floats .entry))) 7 id 0 (vertexGiven (now (value .entry)) (now (floats .entry))) ⌝ }
-    ensures floats { λ _. ⌜ now (reals .exit) ≡ editReals (now (room .entry)) (now (words .entry)) (now (reals .entry)) (vertexGood (now (value .entry)) (now (floats .entry))) 7 id (vertexOwn (now (value .entry)) (now (floats .entry))) ⌝ }
+    ensures answer { λ r. ⌜ r ≡ lent editNumber room words reals (vertexGood (was value) (was floats)) 7 id ⌝ }
+    ensures tables { λ _. ⌜ now (words .exit) ≡ lent editWords room words reals (vertexGood (was value) (was floats)) 7 id 0 (vertexGiven (was value) (was floats)) ⌝ }
+    ensures floats { λ _. ⌜ now (reals .exit) ≡ lent editReals room words reals (vertexGood (was value) (was floats)) 7 id (vertexOwn (was value) (was floats)) ⌝ }
 {
     if !own_known(value) {
         return unknown_tag(room, &words[..], &reals[..]);
@@ -137,9 +138,9 @@ pub fn curve(
     value: &[u32; 1],
     floats: &[f64; 6],
 ) -> u32
-    ensures answer { λ r. ⌜ r ≡ editNumber (now (room .entry)) (now (words .entry)) (now (reals .entry)) (carrierKnown (now (value .entry))) 8 id ⌝ }
-    ensures tables { λ _. ⌜ now (words .exit) ≡ editWords (now (room .entry)) (now (words .entry)) (now (reals .entry)) (carrierKnown (now (value .entry))) 8 id 0 (carrierGiven (now (value .entry)) (now (floats .entry))) ⌝ }
-    ensures floats { λ _. ⌜ now (reals .exit) ≡ editReals (now (room .entry)) (now (words .entry)) (now (reals .entry)) (carrierKnown (now (value .entry))) 8 id (carrierOwn (now (value .entry)) (now (floats .entry))) ⌝ }
+    ensures answer { λ r. ⌜ r ≡ lent editNumber room words reals (carrierKnown (was value)) 8 id ⌝ }
+    ensures tables { λ _. ⌜ now (words .exit) ≡ lent editWords room words reals (carrierKnown (was value)) 8 id 0 (carrierGiven (was value) (was floats)) ⌝ }
+    ensures floats { λ _. ⌜ now (reals .exit) ≡ lent editReals room words reals (carrierKnown (was value)) 8 id (carrierOwn (was value) (was floats)) ⌝ }
 {
     if !carrier_known(value) {
         return unknown_tag(room, &words[..], &reals[..]);
@@ -156,9 +157,9 @@ pub fn surface(
     value: &[u32; 1],
     floats: &[f64; 6],
 ) -> u32
-    ensures answer { λ r. ⌜ r ≡ editNumber (now (room .entry)) (now (words .entry)) (now (reals .entry)) (carrierKnown (now (value .entry))) 9 id ⌝ }
-    ensures tables { λ _. ⌜ now (words .exit) ≡ editWords (now (room .entry)) (now (words .entry)) (now (reals .entry)) (carrierKnown (now (value .entry))) 9 id 0 (carrierGiven (now (value .entry)) (now (floats .entry))) ⌝ }
-    ensures floats { λ _. ⌜ now (reals .exit) ≡ editReals (now (room .entry)) (now (words .entry)) (now (reals .entry)) (carrierKnown (now (value .entry))) 9 id (carrierOwn (now (value .entry)) (now (floats .entry))) ⌝ }
+    ensures answer { λ r. ⌜ r ≡ lent editNumber room words reals (carrierKnown (was value)) 9 id ⌝ }
+    ensures tables { λ _. ⌜ now (words .exit) ≡ lent editWords room words reals (carrierKnown (was value)) 9 id 0 (carrierGiven (was value) (was floats)) ⌝ }
+    ensures floats { λ _. ⌜ now (reals .exit) ≡ lent editReals room words reals (carrierKnown (was value)) 9 id (carrierOwn (was value) (was floats)) ⌝ }
 {
     if !carrier_known(value) {
         return unknown_tag(room, &words[..], &reals[..]);

@@ -1,4 +1,4 @@
-// What crosses between the calls and a C program: specs/Crossing.antt says as which numbers an answer crosses, and specs/Given.antt which
+// What crosses between the calls and a C program: specs/Crossing.antt says as which numbers a value crosses, and specs/Given.antt which
 // fields the numbers name that are handed over. Here the answers that are no record; the records are crate `forms`.
 use edits::Inserted;
 use entity::records::Ref;
@@ -7,12 +7,14 @@ use tips::Tips;
 ghost use mathlib.Core.Path.{_≡_};
 ghost use mathlib.Core.List.{[], _∷_};
 ghost use Rattle.coded.specs.Tags.{mark, refTag, refId};
-ghost use Rattle.crossings.specs.Crossing.{tipsValue, insertedNumber, insertedSlots};
+ghost use Rattle.edits.specs.declared.Inserted.the-variants as Inserts;
+ghost use Rattle.lent.specs.Lent.{was, lent, Crosses, alone};
+ghost use Rattle.crossings.specs.Crossing.{tipsValue};
 ghost use Rattle.crossings.specs.Given.{tagNumber};
 
 // A tag that is none: 9, then 1.
 pub fn unknown_tag(room: &[usize; 10], words: &[u32], reals: &[f64]) -> u32
-    ensures { λ r. ⌜ r ≡ tagNumber (now (room .entry)) (now (words .entry)) (now (reals .entry)) ⌝ }
+    ensures { λ r. ⌜ r ≡ lent tagNumber room words reals ⌝ }
 {
     if !readable(room, words, reals) {
         return 9;
@@ -51,8 +53,7 @@ pub fn mark_value(yes: bool) -> [u32; 1]
 
 // The id of a new record into its slot.
 pub fn put_id(answer: Inserted, id: &mut [u32; 1]) -> u32
-    ensures number { λ r. ⌜ r ≡ insertedNumber answer ⌝ }
-    ensures slots { λ _. ⌜ now (id .exit) ≡ insertedSlots answer (now (id .entry)) ⌝ }
+    ensures { λ r. ⌜ Crosses Inserts.At Inserts.Refused alone answer r (was id) (now (id .exit)) ⌝ }
 {
     match answer {
         Inserted::At(i) => {

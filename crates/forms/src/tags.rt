@@ -5,48 +5,49 @@ use vectors::vector::Point3;
 ghost use mathlib.Core.Path.{_≡_};
 ghost use Prim.Native.Nat.{_<_};
 ghost use Rattle.model.specs.Decode.{pointAt};
+ghost use Rattle.lent.specs.Lent.{was};
 ghost use Rattle.crossings.specs.Given.{bodyKnown, regionKnown, faceKnown, finKnown, ownKnown, carrierKnown, entityOf};
 
 pub fn body_known(value: &[u32; 1]) -> bool
-    ensures { λ r. ⌜ r ≡ bodyKnown (now (value .entry)) ⌝ }
+    ensures { λ r. ⌜ r ≡ bodyKnown (was value) ⌝ }
 {
     value[0] <= 4
 }
 
 pub fn region_known(value: &[u32; 2]) -> bool
-    ensures { λ r. ⌜ r ≡ regionKnown (now (value .entry)) ⌝ }
+    ensures { λ r. ⌜ r ≡ regionKnown (was value) ⌝ }
 {
     value[1] <= 1
 }
 
 // The tags of three optional ids and a sense or a tolerance.
 pub fn face_known(value: &[u32; 7]) -> bool
-    ensures { λ r. ⌜ r ≡ faceKnown (now (value .entry)) ⌝ }
+    ensures { λ r. ⌜ r ≡ faceKnown (was value) ⌝ }
 {
     (value[0] <= 1) & (value[2] <= 1) & (value[4] <= 1) & (value[6] <= 1)
 }
 
 pub fn fin_known(value: &[u32; 4]) -> bool
-    ensures { λ r. ⌜ r ≡ finKnown (now (value .entry)) ⌝ }
+    ensures { λ r. ⌜ r ≡ finKnown (was value) ⌝ }
 {
     (value[2] <= 1) & (value[3] <= 1)
 }
 
 // The tag of a vertex's tolerance.
 pub fn own_known(value: &[u32; 1]) -> bool
-    ensures { λ r. ⌜ r ≡ ownKnown (now (value .entry)) ⌝ }
+    ensures { λ r. ⌜ r ≡ ownKnown (was value) ⌝ }
 {
     value[0] <= 1
 }
 
 pub fn carrier_known(value: &[u32; 1]) -> bool
-    ensures { λ r. ⌜ r ≡ carrierKnown (now (value .entry)) ⌝ }
+    ensures { λ r. ⌜ r ≡ carrierKnown (was value) ⌝ }
 {
     value[0] <= 2
 }
 
 pub fn point_of(floats: &[f64; 4]) -> Point3
-    ensures { λ r. ⌜ r ≡ pointAt (now (floats .entry)) 0 ⌝ }
+    ensures { λ r. ⌜ r ≡ pointAt (was floats) 0 ⌝ }
 {
     Point3 {
         x: floats[0],

@@ -16,8 +16,7 @@ use fields::region_fields;
 use fields::vertex_fields;
 use fields::vertex_floats;
 ghost use mathlib.Core.Path.{_≡_};
-ghost use Rattle.fields.specs.Fields.{edgeFloats, vertexFields, vertexFloats};
-ghost use Rattle.crossings.specs.Crossing.{bodyValue, regionValue, shellValue, faceValue, loopValue, finValue, edgeValue};
+ghost use Rattle.crossings.specs.Crossing.{bodyValue, regionValue, shellValue, faceValue, loopValue, finValue, edgeValue, vertexValue, edgeReals, vertexReals};
 
 pub fn body_value(b: Body) -> [u32; 2]
     ensures { λ r. ⌜ r ≡ bodyValue b ⌝ }
@@ -76,21 +75,21 @@ pub fn edge_value(e: Edge) -> [u32; 8]
 }
 
 pub fn edge_own(e: Edge) -> [f64; 1]
-    ensures { λ r. ⌜ r ≡ edgeFloats (e .tolerance) ⌝ }
+    ensures { λ r. ⌜ r ≡ edgeReals e ⌝ }
 {
     let tolerance = e.tolerance;
     edge_floats(tolerance)
 }
 
 pub fn vertex_value(v: Vertex) -> [u32; 1]
-    ensures { λ r. ⌜ r ≡ vertexFields (v .tolerance) ⌝ }
+    ensures { λ r. ⌜ r ≡ vertexValue v ⌝ }
 {
     let tolerance = v.tolerance;
     vertex_fields(tolerance)
 }
 
 pub fn vertex_own(v: Vertex) -> [f64; 4]
-    ensures { λ r. ⌜ r ≡ vertexFloats (v .point) (v .tolerance) ⌝ }
+    ensures { λ r. ⌜ r ≡ vertexReals v ⌝ }
 {
     let tolerance = v.tolerance;
     vertex_floats(v.point, tolerance)

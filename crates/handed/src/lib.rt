@@ -7,7 +7,13 @@ use replies::Split;
 use replies::Volume;
 ghost use mathlib.Core.Path.{_≡_};
 ghost use mathlib.Core.Bool.{cond};
-ghost use Rattle.handed.specs.Handed.{cornersValue, cornersNumber, cornersSlots, amountNumber, amountSlots, madeNumber, madeSlots, checkedNumber, checkedSlots, sawableNumber, sawableSlots};
+ghost use Rattle.replies.specs.declared.BoxFound.the-variants as Boxes;
+ghost use Rattle.replies.specs.declared.Volume.the-variants as Volumes;
+ghost use Rattle.replies.specs.declared.Split.the-variants as Splits;
+ghost use Rattle.replies.specs.declared.Checked.the-variants as Checks;
+ghost use Rattle.replies.specs.declared.Sawable.the-variants as Saws;
+ghost use Rattle.lent.specs.Lent.{was, Crosses, alone};
+ghost use Rattle.handed.specs.Handed.{cornersValue, splitValue, countsValue, markValue};
 
 fn box_value(b: Aabb) -> [f64; 6]
     ensures { λ r. ⌜ r ≡ cornersValue b ⌝ }
@@ -16,8 +22,7 @@ fn box_value(b: Aabb) -> [f64; 6]
 }
 
 pub fn put_box(answer: BoxFound, value: &mut [f64; 6]) -> u32
-    ensures answer { λ r. ⌜ r ≡ cornersNumber answer ⌝ }
-    ensures slots { λ _. ⌜ now (value .exit) ≡ cornersSlots answer (now (value .entry)) ⌝ }
+    ensures { λ r. ⌜ Crosses Boxes.Is Boxes.Refused cornersValue answer r (was value) (now (value .exit)) ⌝ }
 {
     match answer {
         BoxFound::Is(b) => {
@@ -29,8 +34,7 @@ pub fn put_box(answer: BoxFound, value: &mut [f64; 6]) -> u32
 }
 
 pub fn put_volume(answer: Volume, value: &mut [f64; 1]) -> u32
-    ensures answer { λ r. ⌜ r ≡ amountNumber answer ⌝ }
-    ensures slots { λ _. ⌜ now (value .exit) ≡ amountSlots answer (now (value .entry)) ⌝ }
+    ensures { λ r. ⌜ Crosses Volumes.Is Volumes.Refused alone answer r (was value) (now (value .exit)) ⌝ }
 {
     match answer {
         Volume::Is(v) => {
@@ -42,8 +46,7 @@ pub fn put_volume(answer: Volume, value: &mut [f64; 1]) -> u32
 }
 
 pub fn put_split(answer: Split, value: &mut [u32; 3]) -> u32
-    ensures answer { λ r. ⌜ r ≡ madeNumber answer ⌝ }
-    ensures slots { λ _. ⌜ now (value .exit) ≡ madeSlots answer (now (value .entry)) ⌝ }
+    ensures { λ r. ⌜ Crosses Splits.Is Splits.Refused splitValue answer r (was value) (now (value .exit)) ⌝ }
 {
     match answer {
         Split::Is(made) => {
@@ -55,8 +58,7 @@ pub fn put_split(answer: Split, value: &mut [u32; 3]) -> u32
 }
 
 pub fn put_counts(answer: Checked, value: &mut [usize; 3]) -> u32
-    ensures answer { λ r. ⌜ r ≡ checkedNumber answer ⌝ }
-    ensures slots { λ _. ⌜ now (value .exit) ≡ checkedSlots answer (now (value .entry)) ⌝ }
+    ensures { λ r. ⌜ Crosses Checks.Is Checks.Refused countsValue answer r (was value) (now (value .exit)) ⌝ }
 {
     match answer {
         Checked::Is(counts) => {
@@ -77,8 +79,7 @@ fn mark(yes: bool) -> u32
 }
 
 pub fn put_fit(answer: Sawable, value: &mut [u32; 1]) -> u32
-    ensures answer { λ r. ⌜ r ≡ sawableNumber answer ⌝ }
-    ensures slots { λ _. ⌜ now (value .exit) ≡ sawableSlots answer (now (value .entry)) ⌝ }
+    ensures { λ r. ⌜ Crosses Saws.Is Saws.Refused markValue answer r (was value) (now (value .exit)) ⌝ }
 {
     match answer {
         Sawable::Is(fit) => {

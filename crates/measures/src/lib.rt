@@ -11,11 +11,19 @@ use splits::split_line_edge;
 use volumes::body_volume;
 ghost use mathlib.Core.Path.{_≡_};
 ghost use lib.ListN.{length, replicate};
-ghost use Rattle.checker.specs.Calls.{asked, checkAnswer, checkWords, fitAnswer};
-ghost use Rattle.boxes.specs.Answers.{boxAnswer};
-ghost use Rattle.volumes.specs.Answers.{volumeAnswer};
-ghost use Rattle.splits.specs.After.{splitAnswer, splitWords, splitReals};
-ghost use Rattle.handed.specs.Handed.{cornersNumber, cornersSlots, amountNumber, amountSlots, madeNumber, madeSlots, checkedNumber, checkedSlots, sawableNumber, sawableSlots, wanted};
+ghost use mathlib.Core.List.{[], _∷_};
+ghost use Rattle.meaning.specs.Faults.{sawing};
+ghost use Rattle.model.specs.Layout.{word};
+ghost use Rattle.model.specs.Decode.{decode};
+ghost use Rattle.frame.specs.Put.{unlessRefused};
+ghost use Rattle.checker.specs.Calls.{asked, checkNumber, checkWords};
+ghost use Rattle.boxes.specs.Answers.{boxNumber};
+ghost use Rattle.volumes.specs.Answers.{volumeNumber};
+ghost use Rattle.cuts.specs.SplitNumber.{splitNumber};
+ghost use Rattle.splits.specs.After.{splitWords, splitReals};
+ghost use Rattle.lent.specs.Lent.{was, lent};
+ghost use Rattle.handed.specs.Handed.{wanted};
+ghost use Rattle.measures.specs.Measured.{boxValue, volumeValue, reportValue, fitValue};
 
 // The two corners of a body's box.
 pub fn box_of(
@@ -28,11 +36,11 @@ pub fn box_of(
     vertices: &mut [u8],
     value: &mut [f64; 6],
 ) -> u32
-    ensures answer { λ r. ⌜ r ≡ cornersNumber (boxAnswer (now (room .entry)) (now (words .entry)) (now (reals .entry)) body (now (faces .entry)) (now (edges .entry)) (now (vertices .entry))) ⌝ }
-    ensures slots { λ _. ⌜ now (value .exit) ≡ cornersSlots (boxAnswer (now (room .entry)) (now (words .entry)) (now (reals .entry)) body (now (faces .entry)) (now (edges .entry)) (now (vertices .entry))) (now (value .entry)) ⌝ }
-    ensures faces { λ _. ⌜ now (faces .exit) ≡ replicate (length (now (faces .entry))) 0 ⌝ }
-    ensures edges { λ _. ⌜ now (edges .exit) ≡ replicate (length (now (edges .entry))) 0 ⌝ }
-    ensures vertices { λ _. ⌜ now (vertices .exit) ≡ replicate (length (now (vertices .entry))) 0 ⌝ }
+    ensures answer { λ r. ⌜ r ≡ lent boxNumber room words reals body (was faces) (was edges) (was vertices) ⌝ }
+    ensures slots { λ r. ⌜ now (value .exit) ≡ unlessRefused r (boxValue (lent decode room words reals) body) (was value) ⌝ }
+    ensures faces { λ _. ⌜ now (faces .exit) ≡ replicate (length (was faces)) 0 ⌝ }
+    ensures edges { λ _. ⌜ now (edges .exit) ≡ replicate (length (was edges)) 0 ⌝ }
+    ensures vertices { λ _. ⌜ now (vertices .exit) ≡ replicate (length (was vertices)) 0 ⌝ }
 {
     let answer = body_bounding_box(room, words, reals, body, faces, edges, vertices);
     put_box(answer, value)
@@ -46,9 +54,9 @@ pub fn volume_of(
     faces: &mut [u8],
     value: &mut [f64; 1],
 ) -> u32
-    ensures answer { λ r. ⌜ r ≡ amountNumber (volumeAnswer (now (room .entry)) (now (words .entry)) (now (reals .entry)) body (now (faces .entry))) ⌝ }
-    ensures slots { λ _. ⌜ now (value .exit) ≡ amountSlots (volumeAnswer (now (room .entry)) (now (words .entry)) (now (reals .entry)) body (now (faces .entry))) (now (value .entry)) ⌝ }
-    ensures faces { λ _. ⌜ now (faces .exit) ≡ replicate (length (now (faces .entry))) 0 ⌝ }
+    ensures answer { λ r. ⌜ r ≡ lent volumeNumber room words reals body (was faces) ⌝ }
+    ensures slots { λ r. ⌜ now (value .exit) ≡ unlessRefused r (volumeValue (lent decode room words reals) body) (was value) ⌝ }
+    ensures faces { λ _. ⌜ now (faces .exit) ≡ replicate (length (was faces)) 0 ⌝ }
 {
     let answer = body_volume(room, words, reals, body, faces);
     put_volume(answer, value)
@@ -63,10 +71,10 @@ pub fn split_of(
     fraction: f64,
     value: &mut [u32; 3],
 ) -> u32
-    ensures answer { λ r. ⌜ r ≡ madeNumber (splitAnswer (now (room .entry)) (now (words .entry)) (now (reals .entry)) edge fraction) ⌝ }
-    ensures slots { λ _. ⌜ now (value .exit) ≡ madeSlots (splitAnswer (now (room .entry)) (now (words .entry)) (now (reals .entry)) edge fraction) (now (value .entry)) ⌝ }
-    ensures tables { λ _. ⌜ now (words .exit) ≡ splitWords (now (room .entry)) (now (words .entry)) (now (reals .entry)) edge fraction ⌝ }
-    ensures floats { λ _. ⌜ now (reals .exit) ≡ splitReals (now (room .entry)) (now (words .entry)) (now (reals .entry)) edge fraction ⌝ }
+    ensures answer { λ r. ⌜ r ≡ lent splitNumber room words reals edge fraction ⌝ }
+    ensures slots { λ r. ⌜ now (value .exit) ≡ unlessRefused r (edge ∷ word (was words) 6 ∷ word (was words) 7 ∷ []) (was value) ⌝ }
+    ensures tables { λ _. ⌜ now (words .exit) ≡ lent splitWords room words reals edge fraction ⌝ }
+    ensures floats { λ _. ⌜ now (reals .exit) ≡ lent splitReals room words reals edge fraction ⌝ }
 {
     let answer = split_line_edge(room, words, reals, edge, fraction);
     put_split(answer, value)
@@ -85,11 +93,11 @@ pub fn report_of(
     nums: &mut [u32],
     value: &mut [usize; 3],
 ) -> u32
-    ensures answer { λ r. ⌜ r ≡ checkedNumber (checkAnswer (now (room .entry)) (now (words .entry)) (now (reals .entry)) body (asked (wanted geometry) samples) (now (faces .entry)) (now (edges .entry)) (now (nums .entry))) ⌝ }
-    ensures slots { λ _. ⌜ now (value .exit) ≡ checkedSlots (checkAnswer (now (room .entry)) (now (words .entry)) (now (reals .entry)) body (asked (wanted geometry) samples) (now (faces .entry)) (now (edges .entry)) (now (nums .entry))) (now (value .entry)) ⌝ }
-    ensures list { λ _. ⌜ now (nums .exit) ≡ checkWords (now (room .entry)) (now (words .entry)) (now (reals .entry)) body (asked (wanted geometry) samples) (now (faces .entry)) (now (edges .entry)) (now (nums .entry)) ⌝ }
-    ensures faces { λ _. ⌜ now (faces .exit) ≡ replicate (length (now (faces .entry))) 0 ⌝ }
-    ensures edges { λ _. ⌜ now (edges .exit) ≡ replicate (length (now (edges .entry))) 0 ⌝ }
+    ensures answer { λ r. ⌜ r ≡ lent checkNumber room words reals body (asked (wanted geometry) samples) (was faces) (was edges) ⌝ }
+    ensures slots { λ r. ⌜ now (value .exit) ≡ unlessRefused r (lent reportValue room words reals body (asked (wanted geometry) samples) (was nums)) (was value) ⌝ }
+    ensures list { λ _. ⌜ now (nums .exit) ≡ lent checkWords room words reals body (asked (wanted geometry) samples) (was faces) (was edges) (was nums) ⌝ }
+    ensures faces { λ _. ⌜ now (faces .exit) ≡ replicate (length (was faces)) 0 ⌝ }
+    ensures edges { λ _. ⌜ now (edges .exit) ≡ replicate (length (was edges)) 0 ⌝ }
 {
     let answer = check_body(
         room,
@@ -115,10 +123,10 @@ pub fn fit_of(
     edges: &mut [u8],
     value: &mut [u32; 1],
 ) -> u32
-    ensures answer { λ r. ⌜ r ≡ sawableNumber (fitAnswer (now (room .entry)) (now (words .entry)) (now (reals .entry)) body (now (faces .entry)) (now (edges .entry))) ⌝ }
-    ensures slots { λ _. ⌜ now (value .exit) ≡ sawableSlots (fitAnswer (now (room .entry)) (now (words .entry)) (now (reals .entry)) body (now (faces .entry)) (now (edges .entry))) (now (value .entry)) ⌝ }
-    ensures faces { λ _. ⌜ now (faces .exit) ≡ replicate (length (now (faces .entry))) 0 ⌝ }
-    ensures edges { λ _. ⌜ now (edges .exit) ≡ replicate (length (now (edges .entry))) 0 ⌝ }
+    ensures answer { λ r. ⌜ r ≡ lent checkNumber room words reals body sawing (was faces) (was edges) ⌝ }
+    ensures slots { λ r. ⌜ now (value .exit) ≡ unlessRefused r (fitValue (lent decode room words reals) body) (was value) ⌝ }
+    ensures faces { λ _. ⌜ now (faces .exit) ≡ replicate (length (was faces)) 0 ⌝ }
+    ensures edges { λ _. ⌜ now (edges .exit) ≡ replicate (length (was edges)) 0 ⌝ }
 {
     let answer = fit_to_saw(room, words, reals, body, faces, edges);
     put_fit(answer, value)

@@ -10,19 +10,27 @@ use present::Contained;
 use present::PrecisionFound;
 use tips::FinVertices;
 ghost use mathlib.Core.Path.{_≡_};
-ghost use mathlib.Core.Bool.{cond};
+ghost use mathlib.Core.List.{[], _∷_};
 ghost use lib.Dec.{ltb};
-ghost use Rattle.model.specs.Entries.{entryAnswer};
-ghost use Rattle.present.specs.Answers.{precisionAnswer, containsAnswer};
-ghost use Rattle.bounds.specs.Answers.{boundsAnswer};
-ghost use Rattle.tips.specs.Answers.{finVerticesAnswer};
-ghost use Rattle.crossings.specs.Crossing.{precisionNumber, precisionSlots, entryNumber, entrySlots, containedNumber, containedSlots, tipsNumber, tipsSlots, rangeNumber, rangeSlots};
-ghost use Rattle.crossings.specs.Given.{tagNumber, entityOf};
+ghost use Rattle.geometry.specs.Refuse.{_unless_, _then_};
+ghost use Rattle.meaning.specs.Walks.{endsOf};
+ghost use Rattle.model.specs.Layout.{word};
+ghost use Rattle.model.specs.Decode.{decode};
+ghost use Rattle.model.specs.Readable.{readable};
+ghost use Rattle.model.specs.Entries.{listOf, entryRefusal};
+ghost use Rattle.present.specs.Answers.{contained};
+ghost use Rattle.bounds.specs.Answers.{boundsNumber};
+ghost use Rattle.tips.specs.Answers.{seenEnds, finVerticesNumber};
+ghost use Rattle.frame.specs.Put.{unlessRefused};
+ghost use Rattle.coded.specs.Tags.{mark};
+ghost use Rattle.lent.specs.Lent.{was, lent};
+ghost use Rattle.crossings.specs.Crossing.{tipsValue, rangeValue};
+ghost use Rattle.crossings.specs.Given.{entityOf};
 
 // The session precision.
 pub fn precision(room: &[usize; 10], words: &[u32], reals: &[f64], value: &mut [f64; 1]) -> u32
-    ensures answer { λ r. ⌜ r ≡ precisionNumber (precisionAnswer (now (room .entry)) (now (words .entry)) (now (reals .entry))) ⌝ }
-    ensures slots { λ _. ⌜ now (value .exit) ≡ precisionSlots (precisionAnswer (now (room .entry)) (now (words .entry)) (now (reals .entry))) (now (value .entry)) ⌝ }
+    ensures answer { λ r. ⌜ r ≡ 9 unless lent readable room words reals ⌝ }
+    ensures slots { λ r. ⌜ now (value .exit) ≡ unlessRefused r (lent decode room words reals .precision ∷ []) (was value) ⌝ }
 {
     match present::precision(room, words, reals) {
         PrecisionFound::Is(p) => {
@@ -43,8 +51,8 @@ pub fn list_entry(
     place: usize,
     value: &mut [u32; 1],
 ) -> u32
-    ensures answer { λ r. ⌜ r ≡ entryNumber (entryAnswer (now (room .entry)) (now (words .entry)) (now (reals .entry)) j i place) ⌝ }
-    ensures slots { λ _. ⌜ now (value .exit) ≡ entrySlots (entryAnswer (now (room .entry)) (now (words .entry)) (now (reals .entry)) j i place) (now (value .entry)) ⌝ }
+    ensures answer { λ r. ⌜ r ≡ lent entryRefusal room words reals j i place ⌝ }
+    ensures slots { λ r. ⌜ now (value .exit) ≡ unlessRefused r (word (listOf (was room) (was words) j i) place ∷ []) (was value) ⌝ }
 {
     match listing::list_entry(room, words, reals, j, i, place) {
         Entry::Is(id) => {
@@ -64,8 +72,8 @@ pub fn contains(
     id: usize,
     value: &mut [u32; 1],
 ) -> u32
-    ensures answer { λ r. ⌜ r ≡ cond (ltb class 8) (containedNumber (containsAnswer (now (room .entry)) (now (words .entry)) (now (reals .entry)) (entityOf class id))) (tagNumber (now (room .entry)) (now (words .entry)) (now (reals .entry))) ⌝ }
-    ensures slots { λ _. ⌜ now (value .exit) ≡ cond (ltb class 8) (containedSlots (containsAnswer (now (room .entry)) (now (words .entry)) (now (reals .entry)) (entityOf class id)) (now (value .entry))) (now (value .entry)) ⌝ }
+    ensures answer { λ r. ⌜ r ≡ 9 unless lent readable room words reals then 1 unless ltb class 8 ⌝ }
+    ensures slots { λ r. ⌜ now (value .exit) ≡ unlessRefused r (mark (contained (lent decode room words reals) (entityOf class id)) ∷ []) (was value) ⌝ }
 {
     if 8 <= class {
         return unknown_tag(room, words, reals);
@@ -88,8 +96,8 @@ pub fn fin_vertices(
     fin: usize,
     value: &mut [u32; 4],
 ) -> u32
-    ensures answer { λ r. ⌜ r ≡ tipsNumber (finVerticesAnswer (now (room .entry)) (now (words .entry)) (now (reals .entry)) fin) ⌝ }
-    ensures slots { λ _. ⌜ now (value .exit) ≡ tipsSlots (finVerticesAnswer (now (room .entry)) (now (words .entry)) (now (reals .entry)) fin) (now (value .entry)) ⌝ }
+    ensures answer { λ r. ⌜ r ≡ lent finVerticesNumber room words reals fin ⌝ }
+    ensures slots { λ r. ⌜ now (value .exit) ≡ unlessRefused r (tipsValue (seenEnds (endsOf (lent decode room words reals) fin))) (was value) ⌝ }
 {
     match tips::fin_vertices(room, words, reals, fin) {
         FinVertices::Is(t) => {
@@ -108,8 +116,8 @@ pub fn bounds_of(
     edge: usize,
     value: &mut [f64; 2],
 ) -> u32
-    ensures answer { λ r. ⌜ r ≡ rangeNumber (boundsAnswer (now (room .entry)) (now (words .entry)) (now (reals .entry)) edge) ⌝ }
-    ensures slots { λ _. ⌜ now (value .exit) ≡ rangeSlots (boundsAnswer (now (room .entry)) (now (words .entry)) (now (reals .entry)) edge) (now (value .entry)) ⌝ }
+    ensures answer { λ r. ⌜ r ≡ lent boundsNumber room words reals edge ⌝ }
+    ensures slots { λ r. ⌜ now (value .exit) ≡ unlessRefused r (rangeValue (lent decode room words reals) edge) (was value) ⌝ }
 {
     match edge_parameter_bounds(room, words, reals, edge) {
         Bounds::Is(r) => {

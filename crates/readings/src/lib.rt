@@ -21,8 +21,15 @@ use lookup::RegionFound;
 use lookup::ShellFound;
 use lookup::VertexFound;
 ghost use mathlib.Core.Path.{_≡_};
-ghost use Rattle.lookup.specs.Lookup.{bodyAnswer, regionAnswer, shellAnswer, faceAnswer, loopAnswer, finAnswer, edgeAnswer, vertexAnswer, curveAnswer, surfaceAnswer};
-ghost use Rattle.crossings.specs.Crossing.{bodyNumber, bodySlots, regionNumber, regionSlots, shellNumber, shellSlots, faceNumber, faceSlots, loopNumber, loopSlots, finNumber, finSlots, edgeNumber, edgeSlots, edgeReals, vertexNumber, vertexSlots, vertexReals, carrierNumber, carrierSlots, carrierReals};
+ghost use Rattle.geometry.specs.Refuse.{_unless_, _then_};
+ghost use Rattle.meaning.specs.Model.{has};
+ghost use Rattle.model.specs.Decode.{decode};
+ghost use Rattle.model.specs.Readable.{readable};
+ghost use Rattle.frame.specs.Put.{unlessRefused};
+ghost use Rattle.entity.specs.Seen.{seenBody, seenRegion, seenShell, seenFace, seenLoop, seenFin, seenEdge, seenVertex};
+ghost use Rattle.fields.specs.Fields.{carrierFields, carrierFloats};
+ghost use Rattle.lent.specs.Lent.{was, lent};
+ghost use Rattle.crossings.specs.Crossing.{bodyValue, regionValue, shellValue, faceValue, loopValue, finValue, edgeValue, vertexValue, edgeReals, vertexReals};
 
 pub fn body(
     room: &[usize; 10],
@@ -31,8 +38,8 @@ pub fn body(
     id: usize,
     value: &mut [u32; 2],
 ) -> u32
-    ensures answer { λ r. ⌜ r ≡ bodyNumber (bodyAnswer (now (room .entry)) (now (words .entry)) (now (reals .entry)) id) ⌝ }
-    ensures slots { λ _. ⌜ now (value .exit) ≡ bodySlots (bodyAnswer (now (room .entry)) (now (words .entry)) (now (reals .entry)) id) (now (value .entry)) ⌝ }
+    ensures answer { λ r. ⌜ r ≡ 9 unless lent readable room words reals then 2 unless has (lent decode room words reals .bodies) id ⌝ }
+    ensures slots { λ r. ⌜ now (value .exit) ≡ unlessRefused r (bodyValue (seenBody (lent decode room words reals .bodies .slot id))) (was value) ⌝ }
 {
     match lookup::body(room, words, reals, id) {
         BodyFound::Is(r) => {
@@ -50,8 +57,8 @@ pub fn region(
     id: usize,
     value: &mut [u32; 3],
 ) -> u32
-    ensures answer { λ r. ⌜ r ≡ regionNumber (regionAnswer (now (room .entry)) (now (words .entry)) (now (reals .entry)) id) ⌝ }
-    ensures slots { λ _. ⌜ now (value .exit) ≡ regionSlots (regionAnswer (now (room .entry)) (now (words .entry)) (now (reals .entry)) id) (now (value .entry)) ⌝ }
+    ensures answer { λ r. ⌜ r ≡ 9 unless lent readable room words reals then 2 unless has (lent decode room words reals .regions) id ⌝ }
+    ensures slots { λ r. ⌜ now (value .exit) ≡ unlessRefused r (regionValue (seenRegion (lent decode room words reals .regions .slot id))) (was value) ⌝ }
 {
     match lookup::region(room, words, reals, id) {
         RegionFound::Is(r) => {
@@ -69,8 +76,8 @@ pub fn shell(
     id: usize,
     value: &mut [u32; 4],
 ) -> u32
-    ensures answer { λ r. ⌜ r ≡ shellNumber (shellAnswer (now (room .entry)) (now (words .entry)) (now (reals .entry)) id) ⌝ }
-    ensures slots { λ _. ⌜ now (value .exit) ≡ shellSlots (shellAnswer (now (room .entry)) (now (words .entry)) (now (reals .entry)) id) (now (value .entry)) ⌝ }
+    ensures answer { λ r. ⌜ r ≡ 9 unless lent readable room words reals then 2 unless has (lent decode room words reals .shells) id ⌝ }
+    ensures slots { λ r. ⌜ now (value .exit) ≡ unlessRefused r (shellValue (seenShell (lent decode room words reals .shells .slot id))) (was value) ⌝ }
 {
     match lookup::shell(room, words, reals, id) {
         ShellFound::Is(r) => {
@@ -88,8 +95,8 @@ pub fn face(
     id: usize,
     value: &mut [u32; 8],
 ) -> u32
-    ensures answer { λ r. ⌜ r ≡ faceNumber (faceAnswer (now (room .entry)) (now (words .entry)) (now (reals .entry)) id) ⌝ }
-    ensures slots { λ _. ⌜ now (value .exit) ≡ faceSlots (faceAnswer (now (room .entry)) (now (words .entry)) (now (reals .entry)) id) (now (value .entry)) ⌝ }
+    ensures answer { λ r. ⌜ r ≡ 9 unless lent readable room words reals then 2 unless has (lent decode room words reals .faces) id ⌝ }
+    ensures slots { λ r. ⌜ now (value .exit) ≡ unlessRefused r (faceValue (seenFace (lent decode room words reals .faces .slot id))) (was value) ⌝ }
 {
     match lookup::face(room, words, reals, id) {
         FaceFound::Is(r) => {
@@ -107,8 +114,8 @@ pub fn loop_(
     id: usize,
     value: &mut [u32; 2],
 ) -> u32
-    ensures answer { λ r. ⌜ r ≡ loopNumber (loopAnswer (now (room .entry)) (now (words .entry)) (now (reals .entry)) id) ⌝ }
-    ensures slots { λ _. ⌜ now (value .exit) ≡ loopSlots (loopAnswer (now (room .entry)) (now (words .entry)) (now (reals .entry)) id) (now (value .entry)) ⌝ }
+    ensures answer { λ r. ⌜ r ≡ 9 unless lent readable room words reals then 2 unless has (lent decode room words reals .loops) id ⌝ }
+    ensures slots { λ r. ⌜ now (value .exit) ≡ unlessRefused r (loopValue (seenLoop (lent decode room words reals .loops .slot id))) (was value) ⌝ }
 {
     match lookup::loop_(room, words, reals, id) {
         LoopFound::Is(r) => {
@@ -120,8 +127,8 @@ pub fn loop_(
 }
 
 pub fn fin(room: &[usize; 10], words: &[u32], reals: &[f64], id: usize, value: &mut [u32; 4]) -> u32
-    ensures answer { λ r. ⌜ r ≡ finNumber (finAnswer (now (room .entry)) (now (words .entry)) (now (reals .entry)) id) ⌝ }
-    ensures slots { λ _. ⌜ now (value .exit) ≡ finSlots (finAnswer (now (room .entry)) (now (words .entry)) (now (reals .entry)) id) (now (value .entry)) ⌝ }
+    ensures answer { λ r. ⌜ r ≡ 9 unless lent readable room words reals then 2 unless has (lent decode room words reals .fins) id ⌝ }
+    ensures slots { λ r. ⌜ now (value .exit) ≡ unlessRefused r (finValue (seenFin (lent decode room words reals .fins .slot id))) (was value) ⌝ }
 {
     match lookup::fin(room, words, reals, id) {
         FinFound::Is(r) => {
@@ -140,9 +147,9 @@ pub fn edge(
     value: &mut [u32; 8],
     floats: &mut [f64; 1],
 ) -> u32
-    ensures answer { λ r. ⌜ r ≡ edgeNumber (edgeAnswer (now (room .entry)) (now (words .entry)) (now (reals .entry)) id) ⌝ }
-    ensures slots { λ _. ⌜ now (value .exit) ≡ edgeSlots (edgeAnswer (now (room .entry)) (now (words .entry)) (now (reals .entry)) id) (now (value .entry)) ⌝ }
-    ensures floats { λ _. ⌜ now (floats .exit) ≡ edgeReals (edgeAnswer (now (room .entry)) (now (words .entry)) (now (reals .entry)) id) (now (floats .entry)) ⌝ }
+    ensures answer { λ r. ⌜ r ≡ 9 unless lent readable room words reals then 2 unless has (lent decode room words reals .edges) id ⌝ }
+    ensures slots { λ r. ⌜ now (value .exit) ≡ unlessRefused r (edgeValue (seenEdge (lent decode room words reals .edges .slot id))) (was value) ⌝ }
+    ensures floats { λ r. ⌜ now (floats .exit) ≡ unlessRefused r (edgeReals (seenEdge (lent decode room words reals .edges .slot id))) (was floats) ⌝ }
 {
     match lookup::edge(room, words, reals, id) {
         EdgeFound::Is(r) => {
@@ -162,9 +169,9 @@ pub fn vertex(
     value: &mut [u32; 1],
     floats: &mut [f64; 4],
 ) -> u32
-    ensures answer { λ r. ⌜ r ≡ vertexNumber (vertexAnswer (now (room .entry)) (now (words .entry)) (now (reals .entry)) id) ⌝ }
-    ensures slots { λ _. ⌜ now (value .exit) ≡ vertexSlots (vertexAnswer (now (room .entry)) (now (words .entry)) (now (reals .entry)) id) (now (value .entry)) ⌝ }
-    ensures floats { λ _. ⌜ now (floats .exit) ≡ vertexReals (vertexAnswer (now (room .entry)) (now (words .entry)) (now (reals .entry)) id) (now (floats .entry)) ⌝ }
+    ensures answer { λ r. ⌜ r ≡ 9 unless lent readable room words reals then 2 unless has (lent decode room words reals .vertices) id ⌝ }
+    ensures slots { λ r. ⌜ now (value .exit) ≡ unlessRefused r (vertexValue (seenVertex (lent decode room words reals .vertices .slot id))) (was value) ⌝ }
+    ensures floats { λ r. ⌜ now (floats .exit) ≡ unlessRefused r (vertexReals (seenVertex (lent decode room words reals .vertices .slot id))) (was floats) ⌝ }
 {
     match lookup::vertex(room, words, reals, id) {
         VertexFound::Is(r) => {
@@ -184,9 +191,9 @@ pub fn curve(
     value: &mut [u32; 1],
     floats: &mut [f64; 6],
 ) -> u32
-    ensures answer { λ r. ⌜ r ≡ carrierNumber (curveAnswer (now (room .entry)) (now (words .entry)) (now (reals .entry)) id) ⌝ }
-    ensures slots { λ _. ⌜ now (value .exit) ≡ carrierSlots (curveAnswer (now (room .entry)) (now (words .entry)) (now (reals .entry)) id) (now (value .entry)) ⌝ }
-    ensures floats { λ _. ⌜ now (floats .exit) ≡ carrierReals (curveAnswer (now (room .entry)) (now (words .entry)) (now (reals .entry)) id) (now (floats .entry)) ⌝ }
+    ensures answer { λ r. ⌜ r ≡ 9 unless lent readable room words reals then 2 unless has (lent decode room words reals .curves) id ⌝ }
+    ensures slots { λ r. ⌜ now (value .exit) ≡ unlessRefused r (carrierFields (lent decode room words reals .curves .slot id)) (was value) ⌝ }
+    ensures floats { λ r. ⌜ now (floats .exit) ≡ unlessRefused r (carrierFloats (lent decode room words reals .curves .slot id)) (was floats) ⌝ }
 {
     match lookup::curve(room, words, reals, id) {
         CarrierFound::Is(r) => {
@@ -206,9 +213,9 @@ pub fn surface(
     value: &mut [u32; 1],
     floats: &mut [f64; 6],
 ) -> u32
-    ensures answer { λ r. ⌜ r ≡ carrierNumber (surfaceAnswer (now (room .entry)) (now (words .entry)) (now (reals .entry)) id) ⌝ }
-    ensures slots { λ _. ⌜ now (value .exit) ≡ carrierSlots (surfaceAnswer (now (room .entry)) (now (words .entry)) (now (reals .entry)) id) (now (value .entry)) ⌝ }
-    ensures floats { λ _. ⌜ now (floats .exit) ≡ carrierReals (surfaceAnswer (now (room .entry)) (now (words .entry)) (now (reals .entry)) id) (now (floats .entry)) ⌝ }
+    ensures answer { λ r. ⌜ r ≡ 9 unless lent readable room words reals then 2 unless has (lent decode room words reals .surfaces) id ⌝ }
+    ensures slots { λ r. ⌜ now (value .exit) ≡ unlessRefused r (carrierFields (lent decode room words reals .surfaces .slot id)) (was value) ⌝ }
+    ensures floats { λ r. ⌜ now (floats .exit) ≡ unlessRefused r (carrierFloats (lent decode room words reals .surfaces .slot id)) (was floats) ⌝ }
 {
     match lookup::surface(room, words, reals, id) {
         CarrierFound::Is(r) => {

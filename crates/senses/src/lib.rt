@@ -10,6 +10,7 @@ use sets::set_fin;
 ghost use mathlib.Core.Path.{_≡_};
 ghost use mathlib.Core.List.{[]};
 ghost use Rattle.edits.specs.Answers.{editNumber, editWords, editReals};
+ghost use Rattle.lent.specs.Lent.{was, lent};
 ghost use Rattle.crossings.specs.Given.{faceKnown, finKnown, faceGiven, finGiven};
 
 pub fn face(
@@ -19,9 +20,9 @@ pub fn face(
     id: usize,
     value: &[u32; 7],
 ) -> u32
-    ensures answer { λ r. ⌜ r ≡ editNumber (now (room .entry)) (now (words .entry)) (now (reals .entry)) (faceKnown (now (value .entry))) 3 id ⌝ }
-    ensures tables { λ _. ⌜ now (words .exit) ≡ editWords (now (room .entry)) (now (words .entry)) (now (reals .entry)) (faceKnown (now (value .entry))) 3 id 0 (faceGiven (now (value .entry))) ⌝ }
-    ensures floats { λ _. ⌜ now (reals .exit) ≡ editReals (now (room .entry)) (now (words .entry)) (now (reals .entry)) (faceKnown (now (value .entry))) 3 id [] ⌝ }
+    ensures answer { λ r. ⌜ r ≡ lent editNumber room words reals (faceKnown (was value)) 3 id ⌝ }
+    ensures tables { λ _. ⌜ now (words .exit) ≡ lent editWords room words reals (faceKnown (was value)) 3 id 0 (faceGiven (was value)) ⌝ }
+    ensures floats { λ _. ⌜ now (reals .exit) ≡ lent editReals room words reals (faceKnown (was value)) 3 id [] ⌝ }
 {
     if !face_known(value) {
         return unknown_tag(room, &words[..], &reals[..]);
@@ -40,9 +41,9 @@ pub fn fin(
     id: usize,
     value: &[u32; 4],
 ) -> u32
-    ensures answer { λ r. ⌜ r ≡ editNumber (now (room .entry)) (now (words .entry)) (now (reals .entry)) (finKnown (now (value .entry))) 5 id ⌝ }
-    ensures tables { λ _. ⌜ now (words .exit) ≡ editWords (now (room .entry)) (now (words .entry)) (now (reals .entry)) (finKnown (now (value .entry))) 5 id 0 (finGiven (now (value .entry))) ⌝ }
-    ensures floats { λ _. ⌜ now (reals .exit) ≡ editReals (now (room .entry)) (now (words .entry)) (now (reals .entry)) (finKnown (now (value .entry))) 5 id [] ⌝ }
+    ensures answer { λ r. ⌜ r ≡ lent editNumber room words reals (finKnown (was value)) 5 id ⌝ }
+    ensures tables { λ _. ⌜ now (words .exit) ≡ lent editWords room words reals (finKnown (was value)) 5 id 0 (finGiven (was value)) ⌝ }
+    ensures floats { λ _. ⌜ now (reals .exit) ≡ lent editReals room words reals (finKnown (was value)) 5 id [] ⌝ }
 {
     if !fin_known(value) {
         return unknown_tag(room, &words[..], &reals[..]);

@@ -3,9 +3,12 @@ use listed::append_entry;
 use listed::put_entry;
 use listed::strike_entry;
 ghost use mathlib.Core.Path.{_≡_};
-ghost use Rattle.model.specs.Entries.{entryAnswer, entryRefusal};
+ghost use mathlib.Core.List.{[], _∷_};
+ghost use Rattle.model.specs.Layout.{word};
+ghost use Rattle.model.specs.Entries.{listOf, entryRefusal};
+ghost use Rattle.frame.specs.Put.{unlessRefused};
 ghost use Rattle.listed.specs.Answers.{putEntryWords, appendNumber, appendEntryWords, strikeEntryWords};
-ghost use Rattle.crossings.specs.Crossing.{entryNumber, entrySlots};
+ghost use Rattle.lent.specs.Lent.{was, lent};
 
 // The entry at a place of list j of record i.
 #[no_mangle]
@@ -18,8 +21,8 @@ pub extern "C" fn brunskerl_list_entry(
     place: usize,
     value: &mut [u32; 1],
 ) -> u32
-    ensures answer { λ r. ⌜ r ≡ entryNumber (entryAnswer (now (room .entry)) (now (words .entry)) (now (reals .entry)) j i place) ⌝ }
-    ensures slots { λ _. ⌜ now (value .exit) ≡ entrySlots (entryAnswer (now (room .entry)) (now (words .entry)) (now (reals .entry)) j i place) (now (value .entry)) ⌝ }
+    ensures answer { λ r. ⌜ r ≡ lent entryRefusal room words reals j i place ⌝ }
+    ensures slots { λ r. ⌜ now (value .exit) ≡ unlessRefused r (word (listOf (was room) (was words) j i) place ∷ []) (was value) ⌝ }
 {
     queries::list_entry(room, words, reals, j, i, place, value)
 }
@@ -35,8 +38,8 @@ pub extern "C" fn brunskerl_put_entry(
     place: usize,
     id: u32,
 ) -> u32
-    ensures answer { λ r. ⌜ r ≡ entryRefusal (now (room .entry)) (now (words .entry)) (now (reals .entry)) j i place ⌝ }
-    ensures tables { λ _. ⌜ now (words .exit) ≡ putEntryWords (now (room .entry)) (now (words .entry)) (now (reals .entry)) j i place id ⌝ }
+    ensures answer { λ r. ⌜ r ≡ lent entryRefusal room words reals j i place ⌝ }
+    ensures tables { λ _. ⌜ now (words .exit) ≡ lent putEntryWords room words reals j i place id ⌝ }
 {
     put_entry(room, words, reals, j, i, place, id)
 }
@@ -51,8 +54,8 @@ pub extern "C" fn brunskerl_append_entry(
     i: usize,
     id: u32,
 ) -> u32
-    ensures answer { λ r. ⌜ r ≡ appendNumber (now (room .entry)) (now (words .entry)) (now (reals .entry)) j i ⌝ }
-    ensures tables { λ _. ⌜ now (words .exit) ≡ appendEntryWords (now (room .entry)) (now (words .entry)) (now (reals .entry)) j i id ⌝ }
+    ensures answer { λ r. ⌜ r ≡ lent appendNumber room words reals j i ⌝ }
+    ensures tables { λ _. ⌜ now (words .exit) ≡ lent appendEntryWords room words reals j i id ⌝ }
 {
     append_entry(room, words, reals, j, i, id)
 }
@@ -67,8 +70,8 @@ pub extern "C" fn brunskerl_strike_entry(
     i: usize,
     place: usize,
 ) -> u32
-    ensures answer { λ r. ⌜ r ≡ entryRefusal (now (room .entry)) (now (words .entry)) (now (reals .entry)) j i place ⌝ }
-    ensures tables { λ _. ⌜ now (words .exit) ≡ strikeEntryWords (now (room .entry)) (now (words .entry)) (now (reals .entry)) j i place ⌝ }
+    ensures answer { λ r. ⌜ r ≡ lent entryRefusal room words reals j i place ⌝ }
+    ensures tables { λ _. ⌜ now (words .exit) ≡ lent strikeEntryWords room words reals j i place ⌝ }
 {
     strike_entry(room, words, reals, j, i, place)
 }

@@ -1,9 +1,11 @@
 // Inserts: the new record's id in a lent slot.
 ghost use mathlib.Core.Path.{_≡_};
 ghost use mathlib.Core.Bool.{true};
-ghost use mathlib.Core.List.{[]};
-ghost use Rattle.edits.specs.Answers.{insertAnswer, insertWords, insertReals};
-ghost use Rattle.crossings.specs.Crossing.{insertedNumber, insertedSlots};
+ghost use mathlib.Core.List.{[], _∷_};
+ghost use Rattle.model.specs.Layout.{word};
+ghost use Rattle.frame.specs.Put.{unlessRefused};
+ghost use Rattle.edits.specs.Answers.{insertNumber, insertWords, insertReals};
+ghost use Rattle.lent.specs.Lent.{was, lent};
 ghost use Rattle.crossings.specs.Given.{bodyKnown, regionKnown, faceKnown, finKnown, carrierKnown, edgeGood, vertexGood, bodyGiven, regionGiven, shellGiven, faceGiven, loopGiven, finGiven, edgeGiven, vertexGiven, carrierGiven, edgeOwn, vertexOwn, carrierOwn};
 
 #[no_mangle]
@@ -14,10 +16,10 @@ pub extern "C" fn brunskerl_insert_body(
     value: &[u32; 1],
     id: &mut [u32; 1],
 ) -> u32
-    ensures answer { λ r. ⌜ r ≡ insertedNumber (insertAnswer (now (room .entry)) (now (words .entry)) (now (reals .entry)) (bodyKnown (now (value .entry))) 0) ⌝ }
-    ensures slots { λ _. ⌜ now (id .exit) ≡ insertedSlots (insertAnswer (now (room .entry)) (now (words .entry)) (now (reals .entry)) (bodyKnown (now (value .entry))) 0) (now (id .entry)) ⌝ }
-    ensures tables { λ _. ⌜ now (words .exit) ≡ insertWords (now (room .entry)) (now (words .entry)) (now (reals .entry)) (bodyKnown (now (value .entry))) 0 (bodyGiven (now (value .entry))) ⌝ }
-    ensures floats { λ _. ⌜ now (reals .exit) ≡ insertReals (now (room .entry)) (now (words .entry)) (now (reals .entry)) (bodyKnown (now (value .entry))) 0 [] ⌝ }
+    ensures answer { λ r. ⌜ r ≡ lent insertNumber room words reals (bodyKnown (was value)) 0 ⌝ }
+    ensures slots { λ r. ⌜ now (id .exit) ≡ unlessRefused r (word (was words) 0 ∷ []) (was id) ⌝ }
+    ensures tables { λ _. ⌜ now (words .exit) ≡ lent insertWords room words reals (bodyKnown (was value)) 0 (bodyGiven (was value)) ⌝ }
+    ensures floats { λ _. ⌜ now (reals .exit) ≡ lent insertReals room words reals (bodyKnown (was value)) 0 [] ⌝ }
 {
     additions::body(room, words, reals, value, id)
 }
@@ -30,10 +32,10 @@ pub extern "C" fn brunskerl_insert_region(
     value: &[u32; 2],
     id: &mut [u32; 1],
 ) -> u32
-    ensures answer { λ r. ⌜ r ≡ insertedNumber (insertAnswer (now (room .entry)) (now (words .entry)) (now (reals .entry)) (regionKnown (now (value .entry))) 1) ⌝ }
-    ensures slots { λ _. ⌜ now (id .exit) ≡ insertedSlots (insertAnswer (now (room .entry)) (now (words .entry)) (now (reals .entry)) (regionKnown (now (value .entry))) 1) (now (id .entry)) ⌝ }
-    ensures tables { λ _. ⌜ now (words .exit) ≡ insertWords (now (room .entry)) (now (words .entry)) (now (reals .entry)) (regionKnown (now (value .entry))) 1 (regionGiven (now (value .entry))) ⌝ }
-    ensures floats { λ _. ⌜ now (reals .exit) ≡ insertReals (now (room .entry)) (now (words .entry)) (now (reals .entry)) (regionKnown (now (value .entry))) 1 [] ⌝ }
+    ensures answer { λ r. ⌜ r ≡ lent insertNumber room words reals (regionKnown (was value)) 1 ⌝ }
+    ensures slots { λ r. ⌜ now (id .exit) ≡ unlessRefused r (word (was words) 1 ∷ []) (was id) ⌝ }
+    ensures tables { λ _. ⌜ now (words .exit) ≡ lent insertWords room words reals (regionKnown (was value)) 1 (regionGiven (was value)) ⌝ }
+    ensures floats { λ _. ⌜ now (reals .exit) ≡ lent insertReals room words reals (regionKnown (was value)) 1 [] ⌝ }
 {
     additions::region(room, words, reals, value, id)
 }
@@ -46,10 +48,10 @@ pub extern "C" fn brunskerl_insert_shell(
     value: &[u32; 1],
     id: &mut [u32; 1],
 ) -> u32
-    ensures answer { λ r. ⌜ r ≡ insertedNumber (insertAnswer (now (room .entry)) (now (words .entry)) (now (reals .entry)) true 2) ⌝ }
-    ensures slots { λ _. ⌜ now (id .exit) ≡ insertedSlots (insertAnswer (now (room .entry)) (now (words .entry)) (now (reals .entry)) true 2) (now (id .entry)) ⌝ }
-    ensures tables { λ _. ⌜ now (words .exit) ≡ insertWords (now (room .entry)) (now (words .entry)) (now (reals .entry)) true 2 (shellGiven (now (value .entry))) ⌝ }
-    ensures floats { λ _. ⌜ now (reals .exit) ≡ insertReals (now (room .entry)) (now (words .entry)) (now (reals .entry)) true 2 [] ⌝ }
+    ensures answer { λ r. ⌜ r ≡ lent insertNumber room words reals true 2 ⌝ }
+    ensures slots { λ r. ⌜ now (id .exit) ≡ unlessRefused r (word (was words) 2 ∷ []) (was id) ⌝ }
+    ensures tables { λ _. ⌜ now (words .exit) ≡ lent insertWords room words reals true 2 (shellGiven (was value)) ⌝ }
+    ensures floats { λ _. ⌜ now (reals .exit) ≡ lent insertReals room words reals true 2 [] ⌝ }
 {
     additions::shell(room, words, reals, value, id)
 }
@@ -62,10 +64,10 @@ pub extern "C" fn brunskerl_insert_face(
     value: &[u32; 7],
     id: &mut [u32; 1],
 ) -> u32
-    ensures answer { λ r. ⌜ r ≡ insertedNumber (insertAnswer (now (room .entry)) (now (words .entry)) (now (reals .entry)) (faceKnown (now (value .entry))) 3) ⌝ }
-    ensures slots { λ _. ⌜ now (id .exit) ≡ insertedSlots (insertAnswer (now (room .entry)) (now (words .entry)) (now (reals .entry)) (faceKnown (now (value .entry))) 3) (now (id .entry)) ⌝ }
-    ensures tables { λ _. ⌜ now (words .exit) ≡ insertWords (now (room .entry)) (now (words .entry)) (now (reals .entry)) (faceKnown (now (value .entry))) 3 (faceGiven (now (value .entry))) ⌝ }
-    ensures floats { λ _. ⌜ now (reals .exit) ≡ insertReals (now (room .entry)) (now (words .entry)) (now (reals .entry)) (faceKnown (now (value .entry))) 3 [] ⌝ }
+    ensures answer { λ r. ⌜ r ≡ lent insertNumber room words reals (faceKnown (was value)) 3 ⌝ }
+    ensures slots { λ r. ⌜ now (id .exit) ≡ unlessRefused r (word (was words) 3 ∷ []) (was id) ⌝ }
+    ensures tables { λ _. ⌜ now (words .exit) ≡ lent insertWords room words reals (faceKnown (was value)) 3 (faceGiven (was value)) ⌝ }
+    ensures floats { λ _. ⌜ now (reals .exit) ≡ lent insertReals room words reals (faceKnown (was value)) 3 [] ⌝ }
 {
     additions::face(room, words, reals, value, id)
 }
@@ -78,10 +80,10 @@ pub extern "C" fn brunskerl_insert_loop(
     value: &[u32; 1],
     id: &mut [u32; 1],
 ) -> u32
-    ensures answer { λ r. ⌜ r ≡ insertedNumber (insertAnswer (now (room .entry)) (now (words .entry)) (now (reals .entry)) true 4) ⌝ }
-    ensures slots { λ _. ⌜ now (id .exit) ≡ insertedSlots (insertAnswer (now (room .entry)) (now (words .entry)) (now (reals .entry)) true 4) (now (id .entry)) ⌝ }
-    ensures tables { λ _. ⌜ now (words .exit) ≡ insertWords (now (room .entry)) (now (words .entry)) (now (reals .entry)) true 4 (loopGiven (now (value .entry))) ⌝ }
-    ensures floats { λ _. ⌜ now (reals .exit) ≡ insertReals (now (room .entry)) (now (words .entry)) (now (reals .entry)) true 4 [] ⌝ }
+    ensures answer { λ r. ⌜ r ≡ lent insertNumber room words reals true 4 ⌝ }
+    ensures slots { λ r. ⌜ now (id .exit) ≡ unlessRefused r (word (was words) 4 ∷ []) (was id) ⌝ }
+    ensures tables { λ _. ⌜ now (words .exit) ≡ lent insertWords room words reals true 4 (loopGiven (was value)) ⌝ }
+    ensures floats { λ _. ⌜ now (reals .exit) ≡ lent insertReals room words reals true 4 [] ⌝ }
 {
     additions::loop_(room, words, reals, value, id)
 }
@@ -94,10 +96,10 @@ pub extern "C" fn brunskerl_insert_fin(
     value: &[u32; 4],
     id: &mut [u32; 1],
 ) -> u32
-    ensures answer { λ r. ⌜ r ≡ insertedNumber (insertAnswer (now (room .entry)) (now (words .entry)) (now (reals .entry)) (finKnown (now (value .entry))) 5) ⌝ }
-    ensures slots { λ _. ⌜ now (id .exit) ≡ insertedSlots (insertAnswer (now (room .entry)) (now (words .entry)) (now (reals .entry)) (finKnown (now (value .entry))) 5) (now (id .entry)) ⌝ }
-    ensures tables { λ _. ⌜ now (words .exit) ≡ insertWords (now (room .entry)) (now (words .entry)) (now (reals .entry)) (finKnown (now (value .entry))) 5 (finGiven (now (value .entry))) ⌝ }
-    ensures floats { λ _. ⌜ now (reals .exit) ≡ insertReals (now (room .entry)) (now (words .entry)) (now (reals .entry)) (finKnown (now (value .entry))) 5 [] ⌝ }
+    ensures answer { λ r. ⌜ r ≡ lent insertNumber room words reals (finKnown (was value)) 5 ⌝ }
+    ensures slots { λ r. ⌜ now (id .exit) ≡ unlessRefused r (word (was words) 5 ∷ []) (was id) ⌝ }
+    ensures tables { λ _. ⌜ now (words .exit) ≡ lent insertWords room words reals (finKnown (was value)) 5 (finGiven (was value)) ⌝ }
+    ensures floats { λ _. ⌜ now (reals .exit) ≡ lent insertReals room words reals (finKnown (was value)) 5 [] ⌝ }
 {
     additions::fin(room, words, reals, value, id)
 }
@@ -111,10 +113,10 @@ pub extern "C" fn brunskerl_insert_edge(
     floats: &[f64; 1],
     id: &mut [u32; 1],
 ) -> u32
-    ensures answer { λ r. ⌜ r ≡ insertedNumber (insertAnswer (now (room .entry)) (now (words .entry)) (now (reals .entry)) (edgeGood (now (value .entry)) (now (floats .entry))) 6) ⌝ }
-    ensures slots { λ _. ⌜ now (id .exit) ≡ insertedSlots (insertAnswer (now (room .entry)) (now (words .entry)) (now (reals .entry)) (edgeGood (now (value .entry)) (now (floats .entry))) 6) (now (id .entry)) ⌝ }
-    ensures tables { λ _. ⌜ now (words .exit) ≡ insertWords (now (room .entry)) (now (words .entry)) (now (reals .entry)) (edgeGood (now (value .entry)) (now (floats .entry))) 6 (edgeGiven (now (value .entry)) (now (floats .entry))) ⌝ }
-    ensures floats { λ _. ⌜ now (reals .exit) ≡ insertReals (now (room .entry)) (now (words .entry)) (now (reals .entry)) (edgeGood (now (value .entry)) (now (floats .entry))) 6 (edgeOwn (now (value .entry)) (now (floats .entry))) ⌝ }
+    ensures answer { λ r. ⌜ r ≡ lent insertNumber room words reals (edgeGood (was value) (was floats)) 6 ⌝ }
+    ensures slots { λ r. ⌜ now (id .exit) ≡ unlessRefused r (word (was words) 6 ∷ []) (was id) ⌝ }
+    ensures tables { λ _. ⌜ now (words .exit) ≡ lent insertWords room words reals (edgeGood (was value) (was floats)) 6 (edgeGiven (was value) (was floats)) ⌝ }
+    ensures floats { λ _. ⌜ now (reals .exit) ≡ lent insertReals room words reals (edgeGood (was value) (was floats)) 6 (edgeOwn (was value) (was floats)) ⌝ }
 {
     bearers::edge(room, words, reals, value, floats, id)
 }
@@ -128,10 +130,10 @@ pub extern "C" fn brunskerl_insert_vertex(
     floats: &[f64; 4],
     id: &mut [u32; 1],
 ) -> u32
-    ensures answer { λ r. ⌜ r ≡ insertedNumber (insertAnswer (now (room .entry)) (now (words .entry)) (now (reals .entry)) (vertexGood (now (value .entry)) (now (floats .entry))) 7) ⌝ }
-    ensures slots { λ _. ⌜ now (id .exit) ≡ insertedSlots (insertAnswer (now (room .entry)) (now (words .entry)) (now (reals .entry)) (vertexGood (now (value .entry)) (now (floats .entry))) 7) (now (id .entry)) ⌝ }
-    ensures tables { λ _. ⌜ now (words .exit) ≡ insertWords (now (room .entry)) (now (words .entry)) (now (reals .entry)) (vertexGood (now (value .entry)) (now (floats .entry))) 7 (vertexGiven (now (value .entry)) (now (floats .entry))) ⌝ }
-    ensures floats { λ _. ⌜ now (reals .exit) ≡ insertReals (now (room .entry)) (now (words .entry)) (now (reals .entry)) (vertexGood (now (value .entry)) (now (floats .entry))) 7 (vertexOwn (now (value .entry)) (now (floats .entry))) ⌝ }
+    ensures answer { λ r. ⌜ r ≡ lent insertNumber room words reals (vertexGood (was value) (was floats)) 7 ⌝ }
+    ensures slots { λ r. ⌜ now (id .exit) ≡ unlessRefused r (word (was words) 7 ∷ []) (was id) ⌝ }
+    ensures tables { λ _. ⌜ now (words .exit) ≡ lent insertWords room words reals (vertexGood (was value) (was floats)) 7 (vertexGiven (was value) (was floats)) ⌝ }
+    ensures floats { λ _. ⌜ now (reals .exit) ≡ lent insertReals room words reals (vertexGood (was value) (was floats)) 7 (vertexOwn (was value) (was floats)) ⌝ }
 {
     bearers::vertex(room, words, reals, value, floats, id)
 }
@@ -145,10 +147,10 @@ pub extern "C" fn brunskerl_insert_curve(
     floats: &[f64; 6],
     id: &mut [u32; 1],
 ) -> u32
-    ensures answer { λ r. ⌜ r ≡ insertedNumber (insertAnswer (now (room .entry)) (now (words .entry)) (now (reals .entry)) (carrierKnown (now (value .entry))) 8) ⌝ }
-    ensures slots { λ _. ⌜ now (id .exit) ≡ insertedSlots (insertAnswer (now (room .entry)) (now (words .entry)) (now (reals .entry)) (carrierKnown (now (value .entry))) 8) (now (id .entry)) ⌝ }
-    ensures tables { λ _. ⌜ now (words .exit) ≡ insertWords (now (room .entry)) (now (words .entry)) (now (reals .entry)) (carrierKnown (now (value .entry))) 8 (carrierGiven (now (value .entry)) (now (floats .entry))) ⌝ }
-    ensures floats { λ _. ⌜ now (reals .exit) ≡ insertReals (now (room .entry)) (now (words .entry)) (now (reals .entry)) (carrierKnown (now (value .entry))) 8 (carrierOwn (now (value .entry)) (now (floats .entry))) ⌝ }
+    ensures answer { λ r. ⌜ r ≡ lent insertNumber room words reals (carrierKnown (was value)) 8 ⌝ }
+    ensures slots { λ r. ⌜ now (id .exit) ≡ unlessRefused r (word (was words) 8 ∷ []) (was id) ⌝ }
+    ensures tables { λ _. ⌜ now (words .exit) ≡ lent insertWords room words reals (carrierKnown (was value)) 8 (carrierGiven (was value) (was floats)) ⌝ }
+    ensures floats { λ _. ⌜ now (reals .exit) ≡ lent insertReals room words reals (carrierKnown (was value)) 8 (carrierOwn (was value) (was floats)) ⌝ }
 {
     additions::curve(room, words, reals, value, floats, id)
 }
@@ -162,10 +164,10 @@ pub extern "C" fn brunskerl_insert_surface(
     floats: &[f64; 6],
     id: &mut [u32; 1],
 ) -> u32
-    ensures answer { λ r. ⌜ r ≡ insertedNumber (insertAnswer (now (room .entry)) (now (words .entry)) (now (reals .entry)) (carrierKnown (now (value .entry))) 9) ⌝ }
-    ensures slots { λ _. ⌜ now (id .exit) ≡ insertedSlots (insertAnswer (now (room .entry)) (now (words .entry)) (now (reals .entry)) (carrierKnown (now (value .entry))) 9) (now (id .entry)) ⌝ }
-    ensures tables { λ _. ⌜ now (words .exit) ≡ insertWords (now (room .entry)) (now (words .entry)) (now (reals .entry)) (carrierKnown (now (value .entry))) 9 (carrierGiven (now (value .entry)) (now (floats .entry))) ⌝ }
-    ensures floats { λ _. ⌜ now (reals .exit) ≡ insertReals (now (room .entry)) (now (words .entry)) (now (reals .entry)) (carrierKnown (now (value .entry))) 9 (carrierOwn (now (value .entry)) (now (floats .entry))) ⌝ }
+    ensures answer { λ r. ⌜ r ≡ lent insertNumber room words reals (carrierKnown (was value)) 9 ⌝ }
+    ensures slots { λ r. ⌜ now (id .exit) ≡ unlessRefused r (word (was words) 9 ∷ []) (was id) ⌝ }
+    ensures tables { λ _. ⌜ now (words .exit) ≡ lent insertWords room words reals (carrierKnown (was value)) 9 (carrierGiven (was value) (was floats)) ⌝ }
+    ensures floats { λ _. ⌜ now (reals .exit) ≡ lent insertReals room words reals (carrierKnown (was value)) 9 (carrierOwn (was value) (was floats)) ⌝ }
 {
     additions::surface(room, words, reals, value, floats, id)
 }

@@ -1,11 +1,19 @@
 // The lookups of model.rs: a record's value in lent slots.
 ghost use mathlib.Core.Path.{_≡_};
-ghost use mathlib.Core.Bool.{cond};
+ghost use mathlib.Core.List.{[], _∷_};
 ghost use lib.Dec.{ltb};
-ghost use Rattle.lookup.specs.Lookup.{bodyAnswer, regionAnswer, shellAnswer, faceAnswer, loopAnswer, finAnswer, edgeAnswer, vertexAnswer, curveAnswer, surfaceAnswer};
-ghost use Rattle.present.specs.Answers.{containsAnswer};
-ghost use Rattle.crossings.specs.Crossing.{bodyNumber, bodySlots, regionNumber, regionSlots, shellNumber, shellSlots, faceNumber, faceSlots, loopNumber, loopSlots, finNumber, finSlots, edgeNumber, edgeSlots, edgeReals, vertexNumber, vertexSlots, vertexReals, carrierNumber, carrierSlots, carrierReals, containedNumber, containedSlots};
-ghost use Rattle.crossings.specs.Given.{tagNumber, entityOf};
+ghost use Rattle.geometry.specs.Refuse.{_unless_, _then_};
+ghost use Rattle.meaning.specs.Model.{has};
+ghost use Rattle.model.specs.Decode.{decode};
+ghost use Rattle.model.specs.Readable.{readable};
+ghost use Rattle.present.specs.Answers.{contained};
+ghost use Rattle.frame.specs.Put.{unlessRefused};
+ghost use Rattle.entity.specs.Seen.{seenBody, seenRegion, seenShell, seenFace, seenLoop, seenFin, seenEdge, seenVertex};
+ghost use Rattle.coded.specs.Tags.{mark};
+ghost use Rattle.fields.specs.Fields.{carrierFields, carrierFloats};
+ghost use Rattle.lent.specs.Lent.{was, lent};
+ghost use Rattle.crossings.specs.Crossing.{bodyValue, regionValue, shellValue, faceValue, loopValue, finValue, edgeValue, vertexValue, edgeReals, vertexReals};
+ghost use Rattle.crossings.specs.Given.{entityOf};
 
 #[no_mangle]
 pub extern "C" fn brunskerl_body(
@@ -15,8 +23,8 @@ pub extern "C" fn brunskerl_body(
     id: usize,
     value: &mut [u32; 2],
 ) -> u32
-    ensures answer { λ r. ⌜ r ≡ bodyNumber (bodyAnswer (now (room .entry)) (now (words .entry)) (now (reals .entry)) id) ⌝ }
-    ensures slots { λ _. ⌜ now (value .exit) ≡ bodySlots (bodyAnswer (now (room .entry)) (now (words .entry)) (now (reals .entry)) id) (now (value .entry)) ⌝ }
+    ensures answer { λ r. ⌜ r ≡ 9 unless lent readable room words reals then 2 unless has (lent decode room words reals .bodies) id ⌝ }
+    ensures slots { λ r. ⌜ now (value .exit) ≡ unlessRefused r (bodyValue (seenBody (lent decode room words reals .bodies .slot id))) (was value) ⌝ }
 {
     readings::body(room, words, reals, id, value)
 }
@@ -29,8 +37,8 @@ pub extern "C" fn brunskerl_region(
     id: usize,
     value: &mut [u32; 3],
 ) -> u32
-    ensures answer { λ r. ⌜ r ≡ regionNumber (regionAnswer (now (room .entry)) (now (words .entry)) (now (reals .entry)) id) ⌝ }
-    ensures slots { λ _. ⌜ now (value .exit) ≡ regionSlots (regionAnswer (now (room .entry)) (now (words .entry)) (now (reals .entry)) id) (now (value .entry)) ⌝ }
+    ensures answer { λ r. ⌜ r ≡ 9 unless lent readable room words reals then 2 unless has (lent decode room words reals .regions) id ⌝ }
+    ensures slots { λ r. ⌜ now (value .exit) ≡ unlessRefused r (regionValue (seenRegion (lent decode room words reals .regions .slot id))) (was value) ⌝ }
 {
     readings::region(room, words, reals, id, value)
 }
@@ -43,8 +51,8 @@ pub extern "C" fn brunskerl_shell(
     id: usize,
     value: &mut [u32; 4],
 ) -> u32
-    ensures answer { λ r. ⌜ r ≡ shellNumber (shellAnswer (now (room .entry)) (now (words .entry)) (now (reals .entry)) id) ⌝ }
-    ensures slots { λ _. ⌜ now (value .exit) ≡ shellSlots (shellAnswer (now (room .entry)) (now (words .entry)) (now (reals .entry)) id) (now (value .entry)) ⌝ }
+    ensures answer { λ r. ⌜ r ≡ 9 unless lent readable room words reals then 2 unless has (lent decode room words reals .shells) id ⌝ }
+    ensures slots { λ r. ⌜ now (value .exit) ≡ unlessRefused r (shellValue (seenShell (lent decode room words reals .shells .slot id))) (was value) ⌝ }
 {
     readings::shell(room, words, reals, id, value)
 }
@@ -57,8 +65,8 @@ pub extern "C" fn brunskerl_face(
     id: usize,
     value: &mut [u32; 8],
 ) -> u32
-    ensures answer { λ r. ⌜ r ≡ faceNumber (faceAnswer (now (room .entry)) (now (words .entry)) (now (reals .entry)) id) ⌝ }
-    ensures slots { λ _. ⌜ now (value .exit) ≡ faceSlots (faceAnswer (now (room .entry)) (now (words .entry)) (now (reals .entry)) id) (now (value .entry)) ⌝ }
+    ensures answer { λ r. ⌜ r ≡ 9 unless lent readable room words reals then 2 unless has (lent decode room words reals .faces) id ⌝ }
+    ensures slots { λ r. ⌜ now (value .exit) ≡ unlessRefused r (faceValue (seenFace (lent decode room words reals .faces .slot id))) (was value) ⌝ }
 {
     readings::face(room, words, reals, id, value)
 }
@@ -71,8 +79,8 @@ pub extern "C" fn brunskerl_loop(
     id: usize,
     value: &mut [u32; 2],
 ) -> u32
-    ensures answer { λ r. ⌜ r ≡ loopNumber (loopAnswer (now (room .entry)) (now (words .entry)) (now (reals .entry)) id) ⌝ }
-    ensures slots { λ _. ⌜ now (value .exit) ≡ loopSlots (loopAnswer (now (room .entry)) (now (words .entry)) (now (reals .entry)) id) (now (value .entry)) ⌝ }
+    ensures answer { λ r. ⌜ r ≡ 9 unless lent readable room words reals then 2 unless has (lent decode room words reals .loops) id ⌝ }
+    ensures slots { λ r. ⌜ now (value .exit) ≡ unlessRefused r (loopValue (seenLoop (lent decode room words reals .loops .slot id))) (was value) ⌝ }
 {
     readings::loop_(room, words, reals, id, value)
 }
@@ -85,8 +93,8 @@ pub extern "C" fn brunskerl_fin(
     id: usize,
     value: &mut [u32; 4],
 ) -> u32
-    ensures answer { λ r. ⌜ r ≡ finNumber (finAnswer (now (room .entry)) (now (words .entry)) (now (reals .entry)) id) ⌝ }
-    ensures slots { λ _. ⌜ now (value .exit) ≡ finSlots (finAnswer (now (room .entry)) (now (words .entry)) (now (reals .entry)) id) (now (value .entry)) ⌝ }
+    ensures answer { λ r. ⌜ r ≡ 9 unless lent readable room words reals then 2 unless has (lent decode room words reals .fins) id ⌝ }
+    ensures slots { λ r. ⌜ now (value .exit) ≡ unlessRefused r (finValue (seenFin (lent decode room words reals .fins .slot id))) (was value) ⌝ }
 {
     readings::fin(room, words, reals, id, value)
 }
@@ -100,9 +108,9 @@ pub extern "C" fn brunskerl_edge(
     value: &mut [u32; 8],
     floats: &mut [f64; 1],
 ) -> u32
-    ensures answer { λ r. ⌜ r ≡ edgeNumber (edgeAnswer (now (room .entry)) (now (words .entry)) (now (reals .entry)) id) ⌝ }
-    ensures slots { λ _. ⌜ now (value .exit) ≡ edgeSlots (edgeAnswer (now (room .entry)) (now (words .entry)) (now (reals .entry)) id) (now (value .entry)) ⌝ }
-    ensures floats { λ _. ⌜ now (floats .exit) ≡ edgeReals (edgeAnswer (now (room .entry)) (now (words .entry)) (now (reals .entry)) id) (now (floats .entry)) ⌝ }
+    ensures answer { λ r. ⌜ r ≡ 9 unless lent readable room words reals then 2 unless has (lent decode room words reals .edges) id ⌝ }
+    ensures slots { λ r. ⌜ now (value .exit) ≡ unlessRefused r (edgeValue (seenEdge (lent decode room words reals .edges .slot id))) (was value) ⌝ }
+    ensures floats { λ r. ⌜ now (floats .exit) ≡ unlessRefused r (edgeReals (seenEdge (lent decode room words reals .edges .slot id))) (was floats) ⌝ }
 {
     readings::edge(room, words, reals, id, value, floats)
 }
@@ -116,9 +124,9 @@ pub extern "C" fn brunskerl_vertex(
     value: &mut [u32; 1],
     floats: &mut [f64; 4],
 ) -> u32
-    ensures answer { λ r. ⌜ r ≡ vertexNumber (vertexAnswer (now (room .entry)) (now (words .entry)) (now (reals .entry)) id) ⌝ }
-    ensures slots { λ _. ⌜ now (value .exit) ≡ vertexSlots (vertexAnswer (now (room .entry)) (now (words .entry)) (now (reals .entry)) id) (now (value .entry)) ⌝ }
-    ensures floats { λ _. ⌜ now (floats .exit) ≡ vertexReals (vertexAnswer (now (room .entry)) (now (words .entry)) (now (reals .entry)) id) (now (floats .entry)) ⌝ }
+    ensures answer { λ r. ⌜ r ≡ 9 unless lent readable room words reals then 2 unless has (lent decode room words reals .vertices) id ⌝ }
+    ensures slots { λ r. ⌜ now (value .exit) ≡ unlessRefused r (vertexValue (seenVertex (lent decode room words reals .vertices .slot id))) (was value) ⌝ }
+    ensures floats { λ r. ⌜ now (floats .exit) ≡ unlessRefused r (vertexReals (seenVertex (lent decode room words reals .vertices .slot id))) (was floats) ⌝ }
 {
     readings::vertex(room, words, reals, id, value, floats)
 }
@@ -132,9 +140,9 @@ pub extern "C" fn brunskerl_curve(
     value: &mut [u32; 1],
     floats: &mut [f64; 6],
 ) -> u32
-    ensures answer { λ r. ⌜ r ≡ carrierNumber (curveAnswer (now (room .entry)) (now (words .entry)) (now (reals .entry)) id) ⌝ }
-    ensures slots { λ _. ⌜ now (value .exit) ≡ carrierSlots (curveAnswer (now (room .entry)) (now (words .entry)) (now (reals .entry)) id) (now (value .entry)) ⌝ }
-    ensures floats { λ _. ⌜ now (floats .exit) ≡ carrierReals (curveAnswer (now (room .entry)) (now (words .entry)) (now (reals .entry)) id) (now (floats .entry)) ⌝ }
+    ensures answer { λ r. ⌜ r ≡ 9 unless lent readable room words reals then 2 unless has (lent decode room words reals .curves) id ⌝ }
+    ensures slots { λ r. ⌜ now (value .exit) ≡ unlessRefused r (carrierFields (lent decode room words reals .curves .slot id)) (was value) ⌝ }
+    ensures floats { λ r. ⌜ now (floats .exit) ≡ unlessRefused r (carrierFloats (lent decode room words reals .curves .slot id)) (was floats) ⌝ }
 {
     readings::curve(room, words, reals, id, value, floats)
 }
@@ -148,9 +156,9 @@ pub extern "C" fn brunskerl_surface(
     value: &mut [u32; 1],
     floats: &mut [f64; 6],
 ) -> u32
-    ensures answer { λ r. ⌜ r ≡ carrierNumber (surfaceAnswer (now (room .entry)) (now (words .entry)) (now (reals .entry)) id) ⌝ }
-    ensures slots { λ _. ⌜ now (value .exit) ≡ carrierSlots (surfaceAnswer (now (room .entry)) (now (words .entry)) (now (reals .entry)) id) (now (value .entry)) ⌝ }
-    ensures floats { λ _. ⌜ now (floats .exit) ≡ carrierReals (surfaceAnswer (now (room .entry)) (now (words .entry)) (now (reals .entry)) id) (now (floats .entry)) ⌝ }
+    ensures answer { λ r. ⌜ r ≡ 9 unless lent readable room words reals then 2 unless has (lent decode room words reals .surfaces) id ⌝ }
+    ensures slots { λ r. ⌜ now (value .exit) ≡ unlessRefused r (carrierFields (lent decode room words reals .surfaces .slot id)) (was value) ⌝ }
+    ensures floats { λ r. ⌜ now (floats .exit) ≡ unlessRefused r (carrierFloats (lent decode room words reals .surfaces .slot id)) (was floats) ⌝ }
 {
     readings::surface(room, words, reals, id, value, floats)
 }
@@ -165,8 +173,8 @@ pub extern "C" fn brunskerl_contains(
     id: usize,
     value: &mut [u32; 1],
 ) -> u32
-    ensures answer { λ r. ⌜ r ≡ cond (ltb class 8) (containedNumber (containsAnswer (now (room .entry)) (now (words .entry)) (now (reals .entry)) (entityOf class id))) (tagNumber (now (room .entry)) (now (words .entry)) (now (reals .entry))) ⌝ }
-    ensures slots { λ _. ⌜ now (value .exit) ≡ cond (ltb class 8) (containedSlots (containsAnswer (now (room .entry)) (now (words .entry)) (now (reals .entry)) (entityOf class id)) (now (value .entry))) (now (value .entry)) ⌝ }
+    ensures answer { λ r. ⌜ r ≡ 9 unless lent readable room words reals then 1 unless ltb class 8 ⌝ }
+    ensures slots { λ r. ⌜ now (value .exit) ≡ unlessRefused r (mark (contained (lent decode room words reals) (entityOf class id)) ∷ []) (was value) ⌝ }
 {
     queries::contains(room, words, reals, class, id, value)
 }

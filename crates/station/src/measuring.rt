@@ -1,11 +1,19 @@
 // The box and the volume of a body, the split of an edge, and the report of a body.
 ghost use mathlib.Core.Path.{_≡_};
 ghost use lib.ListN.{length, replicate};
-ghost use Rattle.checker.specs.Calls.{asked, checkAnswer, checkWords, fitAnswer};
-ghost use Rattle.boxes.specs.Answers.{boxAnswer};
-ghost use Rattle.volumes.specs.Answers.{volumeAnswer};
-ghost use Rattle.splits.specs.After.{splitAnswer, splitWords, splitReals};
-ghost use Rattle.handed.specs.Handed.{cornersNumber, cornersSlots, amountNumber, amountSlots, madeNumber, madeSlots, checkedNumber, checkedSlots, sawableNumber, sawableSlots, wanted};
+ghost use mathlib.Core.List.{[], _∷_};
+ghost use Rattle.meaning.specs.Faults.{sawing};
+ghost use Rattle.model.specs.Layout.{word};
+ghost use Rattle.model.specs.Decode.{decode};
+ghost use Rattle.frame.specs.Put.{unlessRefused};
+ghost use Rattle.checker.specs.Calls.{asked, checkNumber, checkWords};
+ghost use Rattle.boxes.specs.Answers.{boxNumber};
+ghost use Rattle.volumes.specs.Answers.{volumeNumber};
+ghost use Rattle.cuts.specs.SplitNumber.{splitNumber};
+ghost use Rattle.splits.specs.After.{splitWords, splitReals};
+ghost use Rattle.lent.specs.Lent.{was, lent};
+ghost use Rattle.handed.specs.Handed.{wanted};
+ghost use Rattle.measures.specs.Measured.{boxValue, volumeValue, reportValue, fitValue};
 
 // The two corners of a body's box; `faces`, `edges` and `vertices` are seen marks.
 #[no_mangle]
@@ -19,11 +27,11 @@ pub extern "C" fn brunskerl_body_bounding_box(
     vertices: &mut [u8],
     value: &mut [f64; 6],
 ) -> u32
-    ensures answer { λ r. ⌜ r ≡ cornersNumber (boxAnswer (now (room .entry)) (now (words .entry)) (now (reals .entry)) body (now (faces .entry)) (now (edges .entry)) (now (vertices .entry))) ⌝ }
-    ensures slots { λ _. ⌜ now (value .exit) ≡ cornersSlots (boxAnswer (now (room .entry)) (now (words .entry)) (now (reals .entry)) body (now (faces .entry)) (now (edges .entry)) (now (vertices .entry))) (now (value .entry)) ⌝ }
-    ensures faces { λ _. ⌜ now (faces .exit) ≡ replicate (length (now (faces .entry))) 0 ⌝ }
-    ensures edges { λ _. ⌜ now (edges .exit) ≡ replicate (length (now (edges .entry))) 0 ⌝ }
-    ensures vertices { λ _. ⌜ now (vertices .exit) ≡ replicate (length (now (vertices .entry))) 0 ⌝ }
+    ensures answer { λ r. ⌜ r ≡ lent boxNumber room words reals body (was faces) (was edges) (was vertices) ⌝ }
+    ensures slots { λ r. ⌜ now (value .exit) ≡ unlessRefused r (boxValue (lent decode room words reals) body) (was value) ⌝ }
+    ensures faces { λ _. ⌜ now (faces .exit) ≡ replicate (length (was faces)) 0 ⌝ }
+    ensures edges { λ _. ⌜ now (edges .exit) ≡ replicate (length (was edges)) 0 ⌝ }
+    ensures vertices { λ _. ⌜ now (vertices .exit) ≡ replicate (length (was vertices)) 0 ⌝ }
 {
     measures::box_of(room, words, reals, body, faces, edges, vertices, value)
 }
@@ -38,9 +46,9 @@ pub extern "C" fn brunskerl_body_volume(
     faces: &mut [u8],
     value: &mut [f64; 1],
 ) -> u32
-    ensures answer { λ r. ⌜ r ≡ amountNumber (volumeAnswer (now (room .entry)) (now (words .entry)) (now (reals .entry)) body (now (faces .entry))) ⌝ }
-    ensures slots { λ _. ⌜ now (value .exit) ≡ amountSlots (volumeAnswer (now (room .entry)) (now (words .entry)) (now (reals .entry)) body (now (faces .entry))) (now (value .entry)) ⌝ }
-    ensures faces { λ _. ⌜ now (faces .exit) ≡ replicate (length (now (faces .entry))) 0 ⌝ }
+    ensures answer { λ r. ⌜ r ≡ lent volumeNumber room words reals body (was faces) ⌝ }
+    ensures slots { λ r. ⌜ now (value .exit) ≡ unlessRefused r (volumeValue (lent decode room words reals) body) (was value) ⌝ }
+    ensures faces { λ _. ⌜ now (faces .exit) ≡ replicate (length (was faces)) 0 ⌝ }
 {
     measures::volume_of(room, words, reals, body, faces, value)
 }
@@ -55,10 +63,10 @@ pub extern "C" fn brunskerl_split_line_edge(
     fraction: f64,
     value: &mut [u32; 3],
 ) -> u32
-    ensures answer { λ r. ⌜ r ≡ madeNumber (splitAnswer (now (room .entry)) (now (words .entry)) (now (reals .entry)) edge fraction) ⌝ }
-    ensures slots { λ _. ⌜ now (value .exit) ≡ madeSlots (splitAnswer (now (room .entry)) (now (words .entry)) (now (reals .entry)) edge fraction) (now (value .entry)) ⌝ }
-    ensures tables { λ _. ⌜ now (words .exit) ≡ splitWords (now (room .entry)) (now (words .entry)) (now (reals .entry)) edge fraction ⌝ }
-    ensures floats { λ _. ⌜ now (reals .exit) ≡ splitReals (now (room .entry)) (now (words .entry)) (now (reals .entry)) edge fraction ⌝ }
+    ensures answer { λ r. ⌜ r ≡ lent splitNumber room words reals edge fraction ⌝ }
+    ensures slots { λ r. ⌜ now (value .exit) ≡ unlessRefused r (edge ∷ word (was words) 6 ∷ word (was words) 7 ∷ []) (was value) ⌝ }
+    ensures tables { λ _. ⌜ now (words .exit) ≡ lent splitWords room words reals edge fraction ⌝ }
+    ensures floats { λ _. ⌜ now (reals .exit) ≡ lent splitReals room words reals edge fraction ⌝ }
 {
     measures::split_of(room, words, reals, edge, fraction, value)
 }
@@ -78,11 +86,11 @@ pub extern "C" fn brunskerl_check_body(
     list: &mut [u32],
     value: &mut [usize; 3],
 ) -> u32
-    ensures answer { λ r. ⌜ r ≡ checkedNumber (checkAnswer (now (room .entry)) (now (words .entry)) (now (reals .entry)) body (asked (wanted geometry) samples) (now (faces .entry)) (now (edges .entry)) (now (list .entry))) ⌝ }
-    ensures slots { λ _. ⌜ now (value .exit) ≡ checkedSlots (checkAnswer (now (room .entry)) (now (words .entry)) (now (reals .entry)) body (asked (wanted geometry) samples) (now (faces .entry)) (now (edges .entry)) (now (list .entry))) (now (value .entry)) ⌝ }
-    ensures list { λ _. ⌜ now (list .exit) ≡ checkWords (now (room .entry)) (now (words .entry)) (now (reals .entry)) body (asked (wanted geometry) samples) (now (faces .entry)) (now (edges .entry)) (now (list .entry)) ⌝ }
-    ensures faces { λ _. ⌜ now (faces .exit) ≡ replicate (length (now (faces .entry))) 0 ⌝ }
-    ensures edges { λ _. ⌜ now (edges .exit) ≡ replicate (length (now (edges .entry))) 0 ⌝ }
+    ensures answer { λ r. ⌜ r ≡ lent checkNumber room words reals body (asked (wanted geometry) samples) (was faces) (was edges) ⌝ }
+    ensures slots { λ r. ⌜ now (value .exit) ≡ unlessRefused r (lent reportValue room words reals body (asked (wanted geometry) samples) (was list)) (was value) ⌝ }
+    ensures list { λ _. ⌜ now (list .exit) ≡ lent checkWords room words reals body (asked (wanted geometry) samples) (was faces) (was edges) (was list) ⌝ }
+    ensures faces { λ _. ⌜ now (faces .exit) ≡ replicate (length (was faces)) 0 ⌝ }
+    ensures edges { λ _. ⌜ now (edges .exit) ≡ replicate (length (was edges)) 0 ⌝ }
 {
     measures::report_of(
         room,
@@ -109,10 +117,10 @@ pub extern "C" fn brunskerl_fit_to_saw(
     edges: &mut [u8],
     value: &mut [u32; 1],
 ) -> u32
-    ensures answer { λ r. ⌜ r ≡ sawableNumber (fitAnswer (now (room .entry)) (now (words .entry)) (now (reals .entry)) body (now (faces .entry)) (now (edges .entry))) ⌝ }
-    ensures slots { λ _. ⌜ now (value .exit) ≡ sawableSlots (fitAnswer (now (room .entry)) (now (words .entry)) (now (reals .entry)) body (now (faces .entry)) (now (edges .entry))) (now (value .entry)) ⌝ }
-    ensures faces { λ _. ⌜ now (faces .exit) ≡ replicate (length (now (faces .entry))) 0 ⌝ }
-    ensures edges { λ _. ⌜ now (edges .exit) ≡ replicate (length (now (edges .entry))) 0 ⌝ }
+    ensures answer { λ r. ⌜ r ≡ lent checkNumber room words reals body sawing (was faces) (was edges) ⌝ }
+    ensures slots { λ r. ⌜ now (value .exit) ≡ unlessRefused r (fitValue (lent decode room words reals) body) (was value) ⌝ }
+    ensures faces { λ _. ⌜ now (faces .exit) ≡ replicate (length (was faces)) 0 ⌝ }
+    ensures edges { λ _. ⌜ now (edges .exit) ≡ replicate (length (was edges)) 0 ⌝ }
 {
     measures::fit_of(room, words, reals, body, faces, edges, value)
 }

@@ -1,8 +1,12 @@
 // Making an empty model, and its precision.
 ghost use mathlib.Core.Path.{_≡_};
+ghost use mathlib.Core.List.{[], _∷_};
+ghost use Rattle.geometry.specs.Refuse.{_unless_};
+ghost use Rattle.model.specs.Decode.{decode};
+ghost use Rattle.model.specs.Readable.{readable};
+ghost use Rattle.frame.specs.Put.{unlessRefused};
 ghost use Rattle.blank.specs.Answers.{makeNumber, makeWords, makeReals};
-ghost use Rattle.present.specs.Answers.{precisionAnswer};
-ghost use Rattle.crossings.specs.Crossing.{precisionNumber, precisionSlots};
+ghost use Rattle.lent.specs.Lent.{was, lent};
 
 // An empty model with its precision.
 #[no_mangle]
@@ -12,9 +16,9 @@ pub extern "C" fn brunskerl_make(
     reals: &mut [f64],
     precision: f64,
 ) -> u32
-    ensures answer { λ r. ⌜ r ≡ makeNumber (now (room .entry)) (now (words .entry)) (now (reals .entry)) precision ⌝ }
-    ensures tables { λ _. ⌜ now (words .exit) ≡ makeWords (now (room .entry)) (now (words .entry)) (now (reals .entry)) precision ⌝ }
-    ensures floats { λ _. ⌜ now (reals .exit) ≡ makeReals (now (room .entry)) (now (words .entry)) (now (reals .entry)) precision ⌝ }
+    ensures answer { λ r. ⌜ r ≡ lent makeNumber room words reals precision ⌝ }
+    ensures tables { λ _. ⌜ now (words .exit) ≡ lent makeWords room words reals precision ⌝ }
+    ensures floats { λ _. ⌜ now (reals .exit) ≡ lent makeReals room words reals precision ⌝ }
 {
     blank::make(room, words, reals, precision)
 }
@@ -27,8 +31,8 @@ pub extern "C" fn brunskerl_precision(
     reals: &[f64],
     value: &mut [f64; 1],
 ) -> u32
-    ensures answer { λ r. ⌜ r ≡ precisionNumber (precisionAnswer (now (room .entry)) (now (words .entry)) (now (reals .entry))) ⌝ }
-    ensures slots { λ _. ⌜ now (value .exit) ≡ precisionSlots (precisionAnswer (now (room .entry)) (now (words .entry)) (now (reals .entry))) (now (value .entry)) ⌝ }
+    ensures answer { λ r. ⌜ r ≡ 9 unless lent readable room words reals ⌝ }
+    ensures slots { λ r. ⌜ now (value .exit) ≡ unlessRefused r (lent decode room words reals .precision ∷ []) (was value) ⌝ }
 {
     queries::precision(room, words, reals, value)
 }

@@ -3,6 +3,7 @@ ghost use mathlib.Core.Path.{_≡_};
 ghost use mathlib.Core.Bool.{true};
 ghost use mathlib.Core.List.{[], _∷_};
 ghost use Rattle.edits.specs.Answers.{editNumber, editWords, editReals};
+ghost use Rattle.lent.specs.Lent.{was, lent};
 ghost use Rattle.crossings.specs.Given.{bodyKnown, regionKnown, faceKnown, finKnown, carrierKnown, edgeGood, vertexGood, bodyGiven, regionGiven, shellGiven, faceGiven, loopGiven, finGiven, edgeGiven, vertexGiven, carrierGiven, edgeOwn, vertexOwn, carrierOwn};
 ghost use Rattle.coded.specs.Tags.{mark};
 
@@ -14,9 +15,9 @@ pub extern "C" fn brunskerl_set_body(
     id: usize,
     value: &[u32; 1],
 ) -> u32
-    ensures answer { λ r. ⌜ r ≡ editNumber (now (room .entry)) (now (words .entry)) (now (reals .entry)) (bodyKnown (now (value .entry))) 0 id ⌝ }
-    ensures tables { λ _. ⌜ now (words .exit) ≡ editWords (now (room .entry)) (now (words .entry)) (now (reals .entry)) (bodyKnown (now (value .entry))) 0 id 0 (bodyGiven (now (value .entry))) ⌝ }
-    ensures floats { λ _. ⌜ now (reals .exit) ≡ editReals (now (room .entry)) (now (words .entry)) (now (reals .entry)) (bodyKnown (now (value .entry))) 0 id [] ⌝ }
+    ensures answer { λ r. ⌜ r ≡ lent editNumber room words reals (bodyKnown (was value)) 0 id ⌝ }
+    ensures tables { λ _. ⌜ now (words .exit) ≡ lent editWords room words reals (bodyKnown (was value)) 0 id 0 (bodyGiven (was value)) ⌝ }
+    ensures floats { λ _. ⌜ now (reals .exit) ≡ lent editReals room words reals (bodyKnown (was value)) 0 id [] ⌝ }
 {
     changes::body(room, words, reals, id, value)
 }
@@ -29,9 +30,9 @@ pub extern "C" fn brunskerl_set_region(
     id: usize,
     value: &[u32; 2],
 ) -> u32
-    ensures answer { λ r. ⌜ r ≡ editNumber (now (room .entry)) (now (words .entry)) (now (reals .entry)) (regionKnown (now (value .entry))) 1 id ⌝ }
-    ensures tables { λ _. ⌜ now (words .exit) ≡ editWords (now (room .entry)) (now (words .entry)) (now (reals .entry)) (regionKnown (now (value .entry))) 1 id 0 (regionGiven (now (value .entry))) ⌝ }
-    ensures floats { λ _. ⌜ now (reals .exit) ≡ editReals (now (room .entry)) (now (words .entry)) (now (reals .entry)) (regionKnown (now (value .entry))) 1 id [] ⌝ }
+    ensures answer { λ r. ⌜ r ≡ lent editNumber room words reals (regionKnown (was value)) 1 id ⌝ }
+    ensures tables { λ _. ⌜ now (words .exit) ≡ lent editWords room words reals (regionKnown (was value)) 1 id 0 (regionGiven (was value)) ⌝ }
+    ensures floats { λ _. ⌜ now (reals .exit) ≡ lent editReals room words reals (regionKnown (was value)) 1 id [] ⌝ }
 {
     changes::region(room, words, reals, id, value)
 }
@@ -44,9 +45,9 @@ pub extern "C" fn brunskerl_set_shell(
     id: usize,
     value: &[u32; 1],
 ) -> u32
-    ensures answer { λ r. ⌜ r ≡ editNumber (now (room .entry)) (now (words .entry)) (now (reals .entry)) true 2 id ⌝ }
-    ensures tables { λ _. ⌜ now (words .exit) ≡ editWords (now (room .entry)) (now (words .entry)) (now (reals .entry)) true 2 id 0 (shellGiven (now (value .entry))) ⌝ }
-    ensures floats { λ _. ⌜ now (reals .exit) ≡ editReals (now (room .entry)) (now (words .entry)) (now (reals .entry)) true 2 id [] ⌝ }
+    ensures answer { λ r. ⌜ r ≡ lent editNumber room words reals true 2 id ⌝ }
+    ensures tables { λ _. ⌜ now (words .exit) ≡ lent editWords room words reals true 2 id 0 (shellGiven (was value)) ⌝ }
+    ensures floats { λ _. ⌜ now (reals .exit) ≡ lent editReals room words reals true 2 id [] ⌝ }
 {
     changes::shell(room, words, reals, id, value)
 }
@@ -59,9 +60,9 @@ pub extern "C" fn brunskerl_set_face(
     id: usize,
     value: &[u32; 7],
 ) -> u32
-    ensures answer { λ r. ⌜ r ≡ editNumber (now (room .entry)) (now (words .entry)) (now (reals .entry)) (faceKnown (now (value .entry))) 3 id ⌝ }
-    ensures tables { λ _. ⌜ now (words .exit) ≡ editWords (now (room .entry)) (now (words .entry)) (now (reals .entry)) (faceKnown (now (value .entry))) 3 id 0 (faceGiven (now (value .entry))) ⌝ }
-    ensures floats { λ _. ⌜ now (reals .exit) ≡ editReals (now (room .entry)) (now (words .entry)) (now (reals .entry)) (faceKnown (now (value .entry))) 3 id [] ⌝ }
+    ensures answer { λ r. ⌜ r ≡ lent editNumber room words reals (faceKnown (was value)) 3 id ⌝ }
+    ensures tables { λ _. ⌜ now (words .exit) ≡ lent editWords room words reals (faceKnown (was value)) 3 id 0 (faceGiven (was value)) ⌝ }
+    ensures floats { λ _. ⌜ now (reals .exit) ≡ lent editReals room words reals (faceKnown (was value)) 3 id [] ⌝ }
 {
     senses::face(room, words, reals, id, value)
 }
@@ -74,9 +75,9 @@ pub extern "C" fn brunskerl_set_loop(
     id: usize,
     value: &[u32; 1],
 ) -> u32
-    ensures answer { λ r. ⌜ r ≡ editNumber (now (room .entry)) (now (words .entry)) (now (reals .entry)) true 4 id ⌝ }
-    ensures tables { λ _. ⌜ now (words .exit) ≡ editWords (now (room .entry)) (now (words .entry)) (now (reals .entry)) true 4 id 0 (loopGiven (now (value .entry))) ⌝ }
-    ensures floats { λ _. ⌜ now (reals .exit) ≡ editReals (now (room .entry)) (now (words .entry)) (now (reals .entry)) true 4 id [] ⌝ }
+    ensures answer { λ r. ⌜ r ≡ lent editNumber room words reals true 4 id ⌝ }
+    ensures tables { λ _. ⌜ now (words .exit) ≡ lent editWords room words reals true 4 id 0 (loopGiven (was value)) ⌝ }
+    ensures floats { λ _. ⌜ now (reals .exit) ≡ lent editReals room words reals true 4 id [] ⌝ }
 {
     changes::loop_(room, words, reals, id, value)
 }
@@ -89,9 +90,9 @@ pub extern "C" fn brunskerl_set_fin(
     id: usize,
     value: &[u32; 4],
 ) -> u32
-    ensures answer { λ r. ⌜ r ≡ editNumber (now (room .entry)) (now (words .entry)) (now (reals .entry)) (finKnown (now (value .entry))) 5 id ⌝ }
-    ensures tables { λ _. ⌜ now (words .exit) ≡ editWords (now (room .entry)) (now (words .entry)) (now (reals .entry)) (finKnown (now (value .entry))) 5 id 0 (finGiven (now (value .entry))) ⌝ }
-    ensures floats { λ _. ⌜ now (reals .exit) ≡ editReals (now (room .entry)) (now (words .entry)) (now (reals .entry)) (finKnown (now (value .entry))) 5 id [] ⌝ }
+    ensures answer { λ r. ⌜ r ≡ lent editNumber room words reals (finKnown (was value)) 5 id ⌝ }
+    ensures tables { λ _. ⌜ now (words .exit) ≡ lent editWords room words reals (finKnown (was value)) 5 id 0 (finGiven (was value)) ⌝ }
+    ensures floats { λ _. ⌜ now (reals .exit) ≡ lent editReals room words reals (finKnown (was value)) 5 id [] ⌝ }
 {
     senses::fin(room, words, reals, id, value)
 }
@@ -105,9 +106,9 @@ pub extern "C" fn brunskerl_set_edge(
     value: &[u32; 7],
     floats: &[f64; 1],
 ) -> u32
-    ensures answer { λ r. ⌜ r ≡ editNumber (now (room .entry)) (now (words .entry)) (now (reals .entry)) (edgeGood (now (value .entry)) (now (floats .entry))) 6 id ⌝ }
-    ensures tables { λ _. ⌜ now (words .exit) ≡ editWords (now (room .entry)) (now (words .entry)) (now (reals .entry)) (edgeGood (now (value .entry)) (now (floats .entry))) 6 id 0 (edgeGiven (now (value .entry)) (now (floats .entry))) ⌝ }
-    ensures floats { λ _. ⌜ now (reals .exit) ≡ editReals (now (room .entry)) (now (words .entry)) (now (reals .entry)) (edgeGood (now (value .entry)) (now (floats .entry))) 6 id (edgeOwn (now (value .entry)) (now (floats .entry))) ⌝ }
+    ensures answer { λ r. ⌜ r ≡ lent editNumber room words reals (edgeGood (was value) (was floats)) 6 id ⌝ }
+    ensures tables { λ _. ⌜ now (words .exit) ≡ lent editWords room words reals (edgeGood (was value) (was floats)) 6 id 0 (edgeGiven (was value) (was floats)) ⌝ }
+    ensures floats { λ _. ⌜ now (reals .exit) ≡ lent editReals room words reals (edgeGood (was value) (was floats)) 6 id (edgeOwn (was value) (was floats)) ⌝ }
 {
     changes::edge(room, words, reals, id, value, floats)
 }
@@ -121,9 +122,9 @@ pub extern "C" fn brunskerl_set_vertex(
     value: &[u32; 1],
     floats: &[f64; 4],
 ) -> u32
-    ensures answer { λ r. ⌜ r ≡ editNumber (now (room .entry)) (now (words .entry)) (now (reals .entry)) (vertexGood (now (value .entry)) (now (floats .entry))) 7 id ⌝ }
-    ensures tables { λ _. ⌜ now (words .exit) ≡ editWords (now (room .entry)) (now (words .entry)) (now (reals .entry)) (vertexGood (now (value .entry)) (now (floats .entry))) 7 id 0 (vertexGiven (now (value .entry)) (now (floats .entry))) ⌝ }
-    ensures floats { λ _. ⌜ now (reals .exit) ≡ editReals (now (room .entry)) (now (words .entry)) (now (reals .entry)) (vertexGood (now (value .entry)) (now (floats .entry))) 7 id (vertexOwn (now (value .entry)) (now (floats .entry))) ⌝ }
+    ensures answer { λ r. ⌜ r ≡ lent editNumber room words reals (vertexGood (was value) (was floats)) 7 id ⌝ }
+    ensures tables { λ _. ⌜ now (words .exit) ≡ lent editWords room words reals (vertexGood (was value) (was floats)) 7 id 0 (vertexGiven (was value) (was floats)) ⌝ }
+    ensures floats { λ _. ⌜ now (reals .exit) ≡ lent editReals room words reals (vertexGood (was value) (was floats)) 7 id (vertexOwn (was value) (was floats)) ⌝ }
 {
     changes::vertex(room, words, reals, id, value, floats)
 }
@@ -137,9 +138,9 @@ pub extern "C" fn brunskerl_set_curve(
     value: &[u32; 1],
     floats: &[f64; 6],
 ) -> u32
-    ensures answer { λ r. ⌜ r ≡ editNumber (now (room .entry)) (now (words .entry)) (now (reals .entry)) (carrierKnown (now (value .entry))) 8 id ⌝ }
-    ensures tables { λ _. ⌜ now (words .exit) ≡ editWords (now (room .entry)) (now (words .entry)) (now (reals .entry)) (carrierKnown (now (value .entry))) 8 id 0 (carrierGiven (now (value .entry)) (now (floats .entry))) ⌝ }
-    ensures floats { λ _. ⌜ now (reals .exit) ≡ editReals (now (room .entry)) (now (words .entry)) (now (reals .entry)) (carrierKnown (now (value .entry))) 8 id (carrierOwn (now (value .entry)) (now (floats .entry))) ⌝ }
+    ensures answer { λ r. ⌜ r ≡ lent editNumber room words reals (carrierKnown (was value)) 8 id ⌝ }
+    ensures tables { λ _. ⌜ now (words .exit) ≡ lent editWords room words reals (carrierKnown (was value)) 8 id 0 (carrierGiven (was value) (was floats)) ⌝ }
+    ensures floats { λ _. ⌜ now (reals .exit) ≡ lent editReals room words reals (carrierKnown (was value)) 8 id (carrierOwn (was value) (was floats)) ⌝ }
 {
     changes::curve(room, words, reals, id, value, floats)
 }
@@ -153,9 +154,9 @@ pub extern "C" fn brunskerl_set_surface(
     value: &[u32; 1],
     floats: &[f64; 6],
 ) -> u32
-    ensures answer { λ r. ⌜ r ≡ editNumber (now (room .entry)) (now (words .entry)) (now (reals .entry)) (carrierKnown (now (value .entry))) 9 id ⌝ }
-    ensures tables { λ _. ⌜ now (words .exit) ≡ editWords (now (room .entry)) (now (words .entry)) (now (reals .entry)) (carrierKnown (now (value .entry))) 9 id 0 (carrierGiven (now (value .entry)) (now (floats .entry))) ⌝ }
-    ensures floats { λ _. ⌜ now (reals .exit) ≡ editReals (now (room .entry)) (now (words .entry)) (now (reals .entry)) (carrierKnown (now (value .entry))) 9 id (carrierOwn (now (value .entry)) (now (floats .entry))) ⌝ }
+    ensures answer { λ r. ⌜ r ≡ lent editNumber room words reals (carrierKnown (was value)) 9 id ⌝ }
+    ensures tables { λ _. ⌜ now (words .exit) ≡ lent editWords room words reals (carrierKnown (was value)) 9 id 0 (carrierGiven (was value) (was floats)) ⌝ }
+    ensures floats { λ _. ⌜ now (reals .exit) ≡ lent editReals room words reals (carrierKnown (was value)) 9 id (carrierOwn (was value) (was floats)) ⌝ }
 {
     changes::surface(room, words, reals, id, value, floats)
 }
@@ -168,9 +169,9 @@ pub extern "C" fn brunskerl_set_fin_geometry(
     reals: &mut [f64],
     id: usize,
 ) -> u32
-    ensures answer { λ r. ⌜ r ≡ editNumber (now (room .entry)) (now (words .entry)) (now (reals .entry)) true 5 id ⌝ }
-    ensures tables { λ _. ⌜ now (words .exit) ≡ editWords (now (room .entry)) (now (words .entry)) (now (reals .entry)) true 5 id 3 (mark true ∷ []) ⌝ }
-    ensures floats { λ _. ⌜ now (reals .exit) ≡ editReals (now (room .entry)) (now (words .entry)) (now (reals .entry)) true 5 id [] ⌝ }
+    ensures answer { λ r. ⌜ r ≡ lent editNumber room words reals true 5 id ⌝ }
+    ensures tables { λ _. ⌜ now (words .exit) ≡ lent editWords room words reals true 5 id 3 (mark true ∷ []) ⌝ }
+    ensures floats { λ _. ⌜ now (reals .exit) ≡ lent editReals room words reals true 5 id [] ⌝ }
 {
     single::set_fin_geometry(room, words, reals, id)
 }

@@ -1,8 +1,12 @@
 // The ends of a fin, and the parameter bounds of an edge.
 ghost use mathlib.Core.Path.{_≡_};
-ghost use Rattle.bounds.specs.Answers.{boundsAnswer};
-ghost use Rattle.tips.specs.Answers.{finVerticesAnswer};
-ghost use Rattle.crossings.specs.Crossing.{tipsNumber, tipsSlots, rangeNumber, rangeSlots};
+ghost use Rattle.meaning.specs.Walks.{endsOf};
+ghost use Rattle.model.specs.Decode.{decode};
+ghost use Rattle.bounds.specs.Answers.{boundsNumber};
+ghost use Rattle.tips.specs.Answers.{seenEnds, finVerticesNumber};
+ghost use Rattle.frame.specs.Put.{unlessRefused};
+ghost use Rattle.lent.specs.Lent.{was, lent};
+ghost use Rattle.crossings.specs.Crossing.{tipsValue, rangeValue};
 
 // The start and end vertices of a fin, each as a tag and an id.
 #[no_mangle]
@@ -13,8 +17,8 @@ pub extern "C" fn brunskerl_fin_vertices(
     fin: usize,
     value: &mut [u32; 4],
 ) -> u32
-    ensures answer { λ r. ⌜ r ≡ tipsNumber (finVerticesAnswer (now (room .entry)) (now (words .entry)) (now (reals .entry)) fin) ⌝ }
-    ensures slots { λ _. ⌜ now (value .exit) ≡ tipsSlots (finVerticesAnswer (now (room .entry)) (now (words .entry)) (now (reals .entry)) fin) (now (value .entry)) ⌝ }
+    ensures answer { λ r. ⌜ r ≡ lent finVerticesNumber room words reals fin ⌝ }
+    ensures slots { λ r. ⌜ now (value .exit) ≡ unlessRefused r (tipsValue (seenEnds (endsOf (lent decode room words reals) fin))) (was value) ⌝ }
 {
     queries::fin_vertices(room, words, reals, fin, value)
 }
@@ -28,8 +32,8 @@ pub extern "C" fn brunskerl_edge_parameter_bounds(
     edge: usize,
     value: &mut [f64; 2],
 ) -> u32
-    ensures answer { λ r. ⌜ r ≡ rangeNumber (boundsAnswer (now (room .entry)) (now (words .entry)) (now (reals .entry)) edge) ⌝ }
-    ensures slots { λ _. ⌜ now (value .exit) ≡ rangeSlots (boundsAnswer (now (room .entry)) (now (words .entry)) (now (reals .entry)) edge) (now (value .entry)) ⌝ }
+    ensures answer { λ r. ⌜ r ≡ lent boundsNumber room words reals edge ⌝ }
+    ensures slots { λ r. ⌜ now (value .exit) ≡ unlessRefused r (rangeValue (lent decode room words reals) edge) (was value) ⌝ }
 {
     queries::bounds_of(room, words, reals, edge, value)
 }

@@ -4,6 +4,7 @@ use tours::write_faces;
 use tours::write_vertices;
 ghost use mathlib.Core.Path.{_≡_};
 ghost use lib.ListN.{length, replicate};
+ghost use Rattle.lent.specs.Lent.{was, lent};
 ghost use Rattle.walks.specs.Calls.{inFront, facesNumber, facesHanded, edgesNumber, edgesHanded, verticesNumber, verticesHanded};
 
 // The faces of a body; `faces` are seen marks.
@@ -17,10 +18,10 @@ pub extern "C" fn brunskerl_body_faces(
     out: &mut [u32],
     code: &mut u32,
 ) -> usize
-    ensures count { λ r. ⌜ r ≡ length (facesHanded (now (room .entry)) (now (words .entry)) (now (reals .entry)) body (now (faces .entry)) (now (out .entry))) ⌝ }
-    ensures list { λ _. ⌜ now (out .exit) ≡ inFront (facesHanded (now (room .entry)) (now (words .entry)) (now (reals .entry)) body (now (faces .entry)) (now (out .entry))) (now (out .entry)) ⌝ }
-    ensures code { λ _. ⌜ now (code .exit) ≡ facesNumber (now (room .entry)) (now (words .entry)) (now (reals .entry)) body (now (faces .entry)) (now (out .entry)) ⌝ }
-    ensures faces { λ _. ⌜ now (faces .exit) ≡ replicate (length (now (faces .entry))) 0 ⌝ }
+    ensures count { λ r. ⌜ r ≡ length (lent facesHanded room words reals body (was faces) (was out)) ⌝ }
+    ensures list { λ _. ⌜ now (out .exit) ≡ inFront (lent facesHanded room words reals body (was faces) (was out)) (was out) ⌝ }
+    ensures code { λ _. ⌜ now (code .exit) ≡ lent facesNumber room words reals body (was faces) (was out) ⌝ }
+    ensures faces { λ _. ⌜ now (faces .exit) ≡ replicate (length (was faces)) 0 ⌝ }
 {
     write_faces(room, words, reals, body, faces, out, code)
 }
@@ -37,11 +38,11 @@ pub extern "C" fn brunskerl_body_edges(
     out: &mut [u32],
     code: &mut u32,
 ) -> usize
-    ensures count { λ r. ⌜ r ≡ length (edgesHanded (now (room .entry)) (now (words .entry)) (now (reals .entry)) body (now (faces .entry)) (now (edges .entry)) (now (out .entry))) ⌝ }
-    ensures list { λ _. ⌜ now (out .exit) ≡ inFront (edgesHanded (now (room .entry)) (now (words .entry)) (now (reals .entry)) body (now (faces .entry)) (now (edges .entry)) (now (out .entry))) (now (out .entry)) ⌝ }
-    ensures code { λ _. ⌜ now (code .exit) ≡ edgesNumber (now (room .entry)) (now (words .entry)) (now (reals .entry)) body (now (faces .entry)) (now (edges .entry)) (now (out .entry)) ⌝ }
-    ensures faces { λ _. ⌜ now (faces .exit) ≡ replicate (length (now (faces .entry))) 0 ⌝ }
-    ensures edges { λ _. ⌜ now (edges .exit) ≡ replicate (length (now (edges .entry))) 0 ⌝ }
+    ensures count { λ r. ⌜ r ≡ length (lent edgesHanded room words reals body (was faces) (was edges) (was out)) ⌝ }
+    ensures list { λ _. ⌜ now (out .exit) ≡ inFront (lent edgesHanded room words reals body (was faces) (was edges) (was out)) (was out) ⌝ }
+    ensures code { λ _. ⌜ now (code .exit) ≡ lent edgesNumber room words reals body (was faces) (was edges) (was out) ⌝ }
+    ensures faces { λ _. ⌜ now (faces .exit) ≡ replicate (length (was faces)) 0 ⌝ }
+    ensures edges { λ _. ⌜ now (edges .exit) ≡ replicate (length (was edges)) 0 ⌝ }
 {
     write_edges(room, words, reals, body, faces, edges, out, code)
 }
@@ -59,12 +60,12 @@ pub extern "C" fn brunskerl_body_vertices(
     out: &mut [u32],
     code: &mut u32,
 ) -> usize
-    ensures count { λ r. ⌜ r ≡ length (verticesHanded (now (room .entry)) (now (words .entry)) (now (reals .entry)) body (now (faces .entry)) (now (edges .entry)) (now (vertices .entry)) (now (out .entry))) ⌝ }
-    ensures list { λ _. ⌜ now (out .exit) ≡ inFront (verticesHanded (now (room .entry)) (now (words .entry)) (now (reals .entry)) body (now (faces .entry)) (now (edges .entry)) (now (vertices .entry)) (now (out .entry))) (now (out .entry)) ⌝ }
-    ensures code { λ _. ⌜ now (code .exit) ≡ verticesNumber (now (room .entry)) (now (words .entry)) (now (reals .entry)) body (now (faces .entry)) (now (edges .entry)) (now (vertices .entry)) (now (out .entry)) ⌝ }
-    ensures faces { λ _. ⌜ now (faces .exit) ≡ replicate (length (now (faces .entry))) 0 ⌝ }
-    ensures edges { λ _. ⌜ now (edges .exit) ≡ replicate (length (now (edges .entry))) 0 ⌝ }
-    ensures vertices { λ _. ⌜ now (vertices .exit) ≡ replicate (length (now (vertices .entry))) 0 ⌝ }
+    ensures count { λ r. ⌜ r ≡ length (lent verticesHanded room words reals body (was faces) (was edges) (was vertices) (was out)) ⌝ }
+    ensures list { λ _. ⌜ now (out .exit) ≡ inFront (lent verticesHanded room words reals body (was faces) (was edges) (was vertices) (was out)) (was out) ⌝ }
+    ensures code { λ _. ⌜ now (code .exit) ≡ lent verticesNumber room words reals body (was faces) (was edges) (was vertices) (was out) ⌝ }
+    ensures faces { λ _. ⌜ now (faces .exit) ≡ replicate (length (was faces)) 0 ⌝ }
+    ensures edges { λ _. ⌜ now (edges .exit) ≡ replicate (length (was edges)) 0 ⌝ }
+    ensures vertices { λ _. ⌜ now (vertices .exit) ≡ replicate (length (was vertices)) 0 ⌝ }
 {
     write_vertices(room, words, reals, body, faces, edges, vertices, out, code)
 }

@@ -1,4 +1,11 @@
 -- `measures::box_of` meets its contract. Assumes nothing.
+use mathlib.Core.List.{map}
+use Rattle.meaning.specs.Model.{pointOf}
+use Rattle.meaning.specs.Walks.{vertexWalk}
+use Rattle.meaning.specs.Inquire.{boxOf}
+use Rattle.model.specs.Decode.{decode}
+use Rattle.figures.specs.Figures.{seenBox}
+use Rattle.boxes.specs.Answers.{boxNumber, boxAnswer}
 use borrow.Author.Needs.{needs}
 use Rattle.measures.proofs.box_of.Statement.{statement}
 use Rattle.measures.proofs.box_of.Tie as tie
@@ -19,7 +26,11 @@ same-length-3 : tie.Need-same-length-3
 same-length-3 c = search needs
 
 returns : tie.Need-returns
-returns c = rw (← c .before .before .before .before .before .before .before .before .body-bounding-box .ensures .0) (c .put-box .ensures .0, (c .put-box .ensures .1, c .before .before .before .before .before .before .before .before .body-bounding-box .ensures .1))
+unfolding boxAnswer
+returns c =
+    let s = c .before .before .before .before .before .before .before .before .before .before .before .before .before .before .before .before .before .args in
+    let p = c .put-box .ensures .crossed (boxNumber (s .room .now) (s .words .now) (s .reals .now) (s .body) (s .faces .now) (s .edges .now) (s .vertices .now)) (seenBox (boxOf (map (pointOf (decode (s .room .now) (s .words .now) (s .reals .now))) (vertexWalk (decode (s .room .now) (s .words .now) (s .reals .now)) (s .body))))) (c .before .before .before .before .before .before .before .before .body-bounding-box .ensures .0) in
+    (p .0, (p .1, c .before .before .before .before .before .before .before .before .body-bounding-box .ensures .1))
 
 pub box-of-spec : {M : Type 1} → statement M
 box-of-spec =

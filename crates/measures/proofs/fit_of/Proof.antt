@@ -1,4 +1,7 @@
 -- `measures::fit_of` meets its contract. Assumes nothing.
+use Rattle.meaning.specs.Faults.{sawing, sawable}
+use Rattle.model.specs.Decode.{decode}
+use Rattle.checker.specs.Calls.{checkNumber, fitAnswer}
 use borrow.Author.Needs.{needs}
 use Rattle.measures.proofs.fit_of.Statement.{statement}
 use Rattle.measures.proofs.fit_of.Tie as tie
@@ -16,7 +19,11 @@ same-length-2 : tie.Need-same-length-2
 same-length-2 c = search needs
 
 returns : tie.Need-returns
-returns c = rw (← c .before .before .before .before .before .before .fit-to-saw .ensures .0) (c .put-fit .ensures .0, (c .put-fit .ensures .1, c .before .before .before .before .before .before .fit-to-saw .ensures .1))
+unfolding fitAnswer
+returns c =
+    let s = c .before .before .before .before .before .before .before .before .before .before .before .before .before .args in
+    let p = c .put-fit .ensures .crossed (checkNumber (s .room .now) (s .words .now) (s .reals .now) (s .body) sawing (s .faces .now) (s .edges .now)) (sawable (decode (s .room .now) (s .words .now) (s .reals .now)) (s .body)) (c .before .before .before .before .before .before .fit-to-saw .ensures .0) in
+    (p .0, (p .1, c .before .before .before .before .before .before .fit-to-saw .ensures .1))
 
 pub fit-of-spec : {M : Type 1} → statement M
 fit-of-spec =

@@ -1,4 +1,9 @@
 -- `measures::report_of` meets its contract. Assumes nothing.
+use Prim.Native.Nat.{_/_}
+use lib.ListN.{length}
+use Rattle.meaning.specs.Faults.{counts}
+use Rattle.checker.specs.Calls.{asked, seenCounts, reportOn, checkNumber, checkAnswer}
+use Rattle.handed.specs.Handed.{wanted}
 use borrow.Author.Needs.{needs}
 use Rattle.measures.proofs.report_of.Statement.{statement}
 use Rattle.measures.proofs.report_of.Tie as tie
@@ -19,7 +24,11 @@ same-length-3 : tie.Need-same-length-3
 same-length-3 c = search needs
 
 returns : tie.Need-returns
-returns c = rw (← c .before .before .before .before .before .before .before .before .check-body .ensures .0) (c .put-counts .ensures .0, (c .put-counts .ensures .1, c .before .before .before .before .before .before .before .before .check-body .ensures .1))
+unfolding checkAnswer
+returns c =
+    let s = c .before .before .before .before .before .before .before .before .before .before .before .before .before .before .before .before .before .args in
+    let p = c .put-counts .ensures .crossed (checkNumber (s .room .now) (s .words .now) (s .reals .now) (s .body) (asked (wanted (s .geometry)) (s .samples)) (s .faces .now) (s .edges .now)) (seenCounts (counts (length (s .nums .now) / 4) (reportOn (s .room .now) (s .words .now) (s .reals .now) (s .body) (asked (wanted (s .geometry)) (s .samples))))) (c .before .before .before .before .before .before .before .before .check-body .ensures .0) in
+    (p .0, (p .1, c .before .before .before .before .before .before .before .before .check-body .ensures .1))
 
 pub report-of-spec : {M : Type 1} → statement M
 report-of-spec =

@@ -1,4 +1,7 @@
 -- `measures::split_of` meets its contract. Assumes nothing.
+use Rattle.model.specs.Layout.{word}
+use Rattle.cuts.specs.SplitNumber.{splitNumber}
+use Rattle.splits.specs.After.{splitAnswer}
 use borrow.Author.Needs.{needs}
 use Rattle.measures.proofs.split_of.Statement.{statement}
 use Rattle.measures.proofs.split_of.Tie as tie
@@ -16,7 +19,11 @@ same-length-2 : tie.Need-same-length-2
 same-length-2 c = search needs
 
 returns : tie.Need-returns
-returns c = rw (← c .before .before .before .before .before .before .split-line-edge .ensures .0) (c .put-split .ensures .0, (c .put-split .ensures .1, c .before .before .before .before .before .before .split-line-edge .ensures .1))
+unfolding splitAnswer
+returns c =
+    let s = c .before .before .before .before .before .before .before .before .before .before .before .args in
+    let p = c .put-split .ensures .crossed (splitNumber (s .room .now) (s .words .now) (s .reals .now) (s .edge) (s .fraction)) (record { «original_edge» = s .edge; «new_edge» = word (s .words .now) 6; vertex = word (s .words .now) 7 }) (c .before .before .before .before .before .before .split-line-edge .ensures .0) in
+    (p .0, (p .1, c .before .before .before .before .before .before .split-line-edge .ensures .1))
 
 pub split-of-spec : {M : Type 1} → statement M
 split-of-spec =

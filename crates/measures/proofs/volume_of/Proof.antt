@@ -1,4 +1,8 @@
 -- `measures::volume_of` meets its contract. Assumes nothing.
+use Rattle.numbers.specs.Ops.{zeroF}
+use Rattle.meaning.specs.Inquire.{solidSides, sumVolumes}
+use Rattle.model.specs.Decode.{decode}
+use Rattle.volumes.specs.Answers.{volumeNumber, volumeAnswer}
 use borrow.Author.Needs.{needs}
 use Rattle.measures.proofs.volume_of.Statement.{statement}
 use Rattle.measures.proofs.volume_of.Tie as tie
@@ -13,7 +17,11 @@ same-length : tie.Need-same-length
 same-length c = search needs
 
 returns : tie.Need-returns
-returns c = rw (← c .before .before .before .before .body-volume .ensures .0) (c .put-volume .ensures .0, (c .put-volume .ensures .1, c .before .before .before .before .body-volume .ensures .1))
+unfolding volumeAnswer
+returns c =
+    let s = c .before .before .before .before .before .before .before .before .before .args in
+    let p = c .put-volume .ensures .crossed (volumeNumber (s .room .now) (s .words .now) (s .reals .now) (s .body) (s .faces .now)) (sumVolumes (decode (s .room .now) (s .words .now) (s .reals .now)) zeroF (solidSides (decode (s .room .now) (s .words .now) (s .reals .now)) (s .body))) (c .before .before .before .before .body-volume .ensures .0) in
+    (p .0, (p .1, c .before .before .before .before .body-volume .ensures .1))
 
 pub volume-of-spec : {M : Type 1} → statement M
 volume-of-spec = tie.close (tie.spec body-volume-requires put-volume-requires same-length returns)

@@ -1,8 +1,18 @@
 -- `queries::bounds_of` meets its contract. Assumes nothing.
-use mathlib.Core.Path.{refl}
+use mathlib.Core.Path.{sym, ap, _∙_}
+use Rattle.bounds.specs.declared.ParamRange.{ParamRange}
+use Rattle.bounds.specs.declared.Bounds.the-variants.{Is, Refused}
+use Rattle.meaning.specs.Split.{lo, hi}
+use Rattle.model.specs.Decode.{decode}
+use Rattle.bounds.specs.Answers.{boundsNumber, boundsAnswer}
+use mathlib.Core.List.{[], _∷_}
+use Rattle.lent.specs.Laws.{Cases, given, denied}
 use borrow.Author.Needs.{needs}
 use Rattle.queries.proofs.bounds_of.Statement.{statement}
 use Rattle.queries.proofs.bounds_of.Tie as tie
+
+cases : Cases Is Refused
+cases = record { apart = λ b m e. cc; values = λ a b e. cc; numbers = λ m n e. cc }
 
 edge-parameter-bounds-requires : tie.Need-edge-parameter-bounds-requires
 edge-parameter-bounds-requires c κs = search needs
@@ -14,10 +24,20 @@ enum-known-n : tie.Need-enum-known-n
 enum-known-n c = search needs
 
 returns : tie.Need-returns
-returns c = rw (← c .before .before .before .before .edge-parameter-bounds .ensures, c .before .before .r .given .1) (refl, refl)
+unfolding boundsAnswer
+returns c =
+    let s = c .before .before .before .before .before .before .before .args in
+    let e = sym (c .before .before .before .before .edge-parameter-bounds .ensures) ∙ c .before .before .r .given .1 in
+    let p = given cases (boundsNumber (s .room .now) (s .words .now) (s .reals .now) (s .edge)) (record { lo = lo (decode (s .room .now) (s .words .now) (s .reals .now)) (s .edge); hi = hi (decode (s .room .now) (s .words .now) (s .reals .now)) (s .edge) }) _ e in
+    (p .0, ap (λ (q : ParamRange). q .lo ∷ q .hi ∷ []) (p .1))
 
 returns-2 : tie.Need-returns-2
-returns-2 c = rw (← c .before .before .before .edge-parameter-bounds .ensures, c .before .n .given .1) (refl, refl)
+unfolding boundsAnswer
+returns-2 c =
+    let s = c .before .before .before .before .before .before .args in
+    let e = sym (c .before .before .before .edge-parameter-bounds .ensures) ∙ c .before .n .given .1 in
+    let p = denied cases (boundsNumber (s .room .now) (s .words .now) (s .reals .now) (s .edge)) (record { lo = lo (decode (s .room .now) (s .words .now) (s .reals .now)) (s .edge); hi = hi (decode (s .room .now) (s .words .now) (s .reals .now)) (s .edge) }) _ e in
+    (p .0, rw (p .1))
 
 pub bounds-of-spec : {M : Type 1} → statement M
 bounds-of-spec =

@@ -1,8 +1,16 @@
 -- `queries::list_entry` meets its contract. Assumes nothing.
-use mathlib.Core.Path.{refl}
+use mathlib.Core.Path.{sym, ap, _∙_}
+use Rattle.model.specs.declared.entries.Entry.the-variants.{Is, Refused}
+use Rattle.model.specs.Layout.{word}
+use Rattle.model.specs.Entries.{listOf, entryRefusal, entryAnswer}
+use Rattle.lent.specs.Lent.{alone}
+use Rattle.lent.specs.Laws.{Cases, given, denied}
 use borrow.Author.Needs.{needs}
 use Rattle.queries.proofs.list_entry.Statement.{statement}
 use Rattle.queries.proofs.list_entry.Tie as tie
+
+cases : Cases Is Refused
+cases = record { apart = λ b m e. cc; values = λ a b e. cc; numbers = λ m n e. cc }
 
 list-entry-requires : tie.Need-list-entry-requires
 list-entry-requires c κs = search needs
@@ -14,10 +22,20 @@ enum-known-n : tie.Need-enum-known-n
 enum-known-n c = search needs
 
 returns : tie.Need-returns
-returns c = rw (← c .before .before .before .before .list-entry .ensures, c .before .before .id .given .1) (refl, refl)
+unfolding entryAnswer
+returns c =
+    let s = c .before .before .before .before .before .before .before .args in
+    let e = sym (c .before .before .before .before .list-entry .ensures) ∙ c .before .before .id .given .1 in
+    let p = given cases (entryRefusal (s .room .now) (s .words .now) (s .reals .now) (s .j) (s .i) (s .place)) (word (listOf (s .room .now) (s .words .now) (s .j) (s .i)) (s .place)) _ e in
+    (p .0, ap alone (p .1))
 
 returns-2 : tie.Need-returns-2
-returns-2 c = rw (← c .before .before .before .list-entry .ensures, c .before .n .given .1) (refl, refl)
+unfolding entryAnswer
+returns-2 c =
+    let s = c .before .before .before .before .before .before .args in
+    let e = sym (c .before .before .before .list-entry .ensures) ∙ c .before .n .given .1 in
+    let p = denied cases (entryRefusal (s .room .now) (s .words .now) (s .reals .now) (s .j) (s .i) (s .place)) (word (listOf (s .room .now) (s .words .now) (s .j) (s .i)) (s .place)) _ e in
+    (p .0, rw (p .1))
 
 pub list-entry-spec : {M : Type 1} → statement M
 list-entry-spec =

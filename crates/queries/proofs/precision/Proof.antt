@@ -1,8 +1,18 @@
 -- `queries::precision` meets its contract. Assumes nothing.
-use mathlib.Core.Path.{refl}
+use mathlib.Core.Path.{sym, ap, _∙_}
+use Rattle.present.specs.declared.PrecisionFound.the-variants.{Is, Refused}
+use Rattle.geometry.specs.Refuse.{_unless_}
+use Rattle.model.specs.Decode.{decode}
+use Rattle.model.specs.Readable.{readable}
+use Rattle.present.specs.Answers.{precisionAnswer}
+use Rattle.lent.specs.Lent.{alone}
+use Rattle.lent.specs.Laws.{Cases, given, denied}
 use borrow.Author.Needs.{needs}
 use Rattle.queries.proofs.precision.Statement.{statement}
 use Rattle.queries.proofs.precision.Tie as tie
+
+cases : Cases Is Refused
+cases = record { apart = λ b m e. cc; values = λ a b e. cc; numbers = λ m n e. cc }
 
 precision-requires : tie.Need-precision-requires
 precision-requires c κs = search needs
@@ -14,10 +24,20 @@ enum-known-n : tie.Need-enum-known-n
 enum-known-n c = search needs
 
 returns : tie.Need-returns
-returns c = rw (← c .before .before .before .before .precision .ensures, c .before .before .p .given .1) (refl, refl)
+unfolding precisionAnswer
+returns c =
+    let s = c .before .before .before .before .before .before .before .args in
+    let e = sym (c .before .before .before .before .precision .ensures) ∙ c .before .before .p .given .1 in
+    let p = given cases (9 unless readable (s .room .now) (s .words .now) (s .reals .now)) (decode (s .room .now) (s .words .now) (s .reals .now) .precision) _ e in
+    (p .0, ap alone (p .1))
 
 returns-2 : tie.Need-returns-2
-returns-2 c = rw (← c .before .before .before .precision .ensures, c .before .n .given .1) (refl, refl)
+unfolding precisionAnswer
+returns-2 c =
+    let s = c .before .before .before .before .before .before .args in
+    let e = sym (c .before .before .before .precision .ensures) ∙ c .before .n .given .1 in
+    let p = denied cases (9 unless readable (s .room .now) (s .words .now) (s .reals .now)) (decode (s .room .now) (s .words .now) (s .reals .now) .precision) _ e in
+    (p .0, rw (p .1))
 
 pub precision-spec : {M : Type 1} → statement M
 precision-spec =

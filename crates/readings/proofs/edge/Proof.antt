@@ -1,8 +1,17 @@
 -- `readings::edge` meets its contract. Assumes nothing.
-use mathlib.Core.Path.{refl}
+use mathlib.Core.Path.{refl, sym, ap, _∙_}
+use Rattle.lookup.specs.declared.EdgeFound.the-variants.{Is, Refused}
+use Rattle.model.specs.Decode.{decode}
+use Rattle.lookup.specs.Lookup.{lookupRefusal, edgeAnswer}
+use Rattle.entity.specs.Seen.{seenEdge}
+use Rattle.crossings.specs.Crossing.{edgeValue, edgeReals}
+use Rattle.lent.specs.Laws.{Cases, given, denied}
 use borrow.Author.Needs.{needs}
 use Rattle.readings.proofs.edge.Statement.{statement}
 use Rattle.readings.proofs.edge.Tie as tie
+
+cases : Cases Is Refused
+cases = record { apart = λ b m e. cc; values = λ a b e. cc; numbers = λ m n e. cc }
 
 edge-requires : tie.Need-edge-requires
 edge-requires c κs = search needs
@@ -20,10 +29,20 @@ enum-known-n : tie.Need-enum-known-n
 enum-known-n c = search needs
 
 returns : tie.Need-returns
-returns c = rw (← c .before .before .before .before .before .edge .ensures, c .before .before .before .r .given .1) (refl, (c .before .edge-value .ensures, c .edge-own .ensures))
+unfolding edgeAnswer
+returns c =
+    let s = c .before .before .before .before .before .before .before .before .args in
+    let t = decode (s .room .now) (s .words .now) (s .reals .now) .edges in
+    let p = given cases (lookupRefusal (s .room .now) (s .words .now) (s .reals .now) t (s .id)) (seenEdge (t .slot (s .id))) _ (sym (c .before .before .before .before .before .edge .ensures) ∙ c .before .before .before .r .given .1) in
+    (p .0, (c .before .edge-value .ensures ∙ ap edgeValue (p .1), c .edge-own .ensures ∙ ap edgeReals (p .1)))
 
 returns-2 : tie.Need-returns-2
-returns-2 c = rw (← c .before .before .before .edge .ensures, c .before .n .given .1) (refl, (refl, refl))
+unfolding edgeAnswer
+returns-2 c =
+    let s = c .before .before .before .before .before .before .args in
+    let t = decode (s .room .now) (s .words .now) (s .reals .now) .edges in
+    let p = denied cases (lookupRefusal (s .room .now) (s .words .now) (s .reals .now) t (s .id)) (seenEdge (t .slot (s .id))) _ (sym (c .before .before .before .edge .ensures) ∙ c .before .n .given .1) in
+    (p .0, rw (p .1) (refl, refl))
 
 pub edge-spec : {M : Type 1} → statement M
 edge-spec =

@@ -1,8 +1,17 @@
 -- `readings::fin` meets its contract. Assumes nothing.
-use mathlib.Core.Path.{refl}
+use mathlib.Core.Path.{sym, ap, _∙_}
+use Rattle.lookup.specs.declared.FinFound.the-variants.{Is, Refused}
+use Rattle.model.specs.Decode.{decode}
+use Rattle.lookup.specs.Lookup.{lookupRefusal, finAnswer}
+use Rattle.entity.specs.Seen.{seenFin}
+use Rattle.crossings.specs.Crossing.{finValue}
+use Rattle.lent.specs.Laws.{Cases, given, denied}
 use borrow.Author.Needs.{needs}
 use Rattle.readings.proofs.fin.Statement.{statement}
 use Rattle.readings.proofs.fin.Tie as tie
+
+cases : Cases Is Refused
+cases = record { apart = λ b m e. cc; values = λ a b e. cc; numbers = λ m n e. cc }
 
 fin-requires : tie.Need-fin-requires
 fin-requires c κs = search needs
@@ -17,10 +26,20 @@ enum-known-n : tie.Need-enum-known-n
 enum-known-n c = search needs
 
 returns : tie.Need-returns
-returns c = rw (← c .before .before .before .before .fin .ensures, c .before .before .r .given .1) (refl, c .fin-value .ensures)
+unfolding finAnswer
+returns c =
+    let s = c .before .before .before .before .before .before .before .args in
+    let t = decode (s .room .now) (s .words .now) (s .reals .now) .fins in
+    let p = given cases (lookupRefusal (s .room .now) (s .words .now) (s .reals .now) t (s .id)) (seenFin (t .slot (s .id))) _ (sym (c .before .before .before .before .fin .ensures) ∙ c .before .before .r .given .1) in
+    (p .0, c .fin-value .ensures ∙ ap finValue (p .1))
 
 returns-2 : tie.Need-returns-2
-returns-2 c = rw (← c .before .before .before .fin .ensures, c .before .n .given .1) (refl, refl)
+unfolding finAnswer
+returns-2 c =
+    let s = c .before .before .before .before .before .before .args in
+    let t = decode (s .room .now) (s .words .now) (s .reals .now) .fins in
+    let p = denied cases (lookupRefusal (s .room .now) (s .words .now) (s .reals .now) t (s .id)) (seenFin (t .slot (s .id))) _ (sym (c .before .before .before .fin .ensures) ∙ c .before .n .given .1) in
+    (p .0, rw (p .1))
 
 pub fin-spec : {M : Type 1} → statement M
 fin-spec =

@@ -1,8 +1,17 @@
 -- `readings::vertex` meets its contract. Assumes nothing.
-use mathlib.Core.Path.{refl}
+use mathlib.Core.Path.{refl, sym, ap, _∙_}
+use Rattle.lookup.specs.declared.VertexFound.the-variants.{Is, Refused}
+use Rattle.model.specs.Decode.{decode}
+use Rattle.lookup.specs.Lookup.{lookupRefusal, vertexAnswer}
+use Rattle.entity.specs.Seen.{seenVertex}
+use Rattle.crossings.specs.Crossing.{vertexValue, vertexReals}
+use Rattle.lent.specs.Laws.{Cases, given, denied}
 use borrow.Author.Needs.{needs}
 use Rattle.readings.proofs.vertex.Statement.{statement}
 use Rattle.readings.proofs.vertex.Tie as tie
+
+cases : Cases Is Refused
+cases = record { apart = λ b m e. cc; values = λ a b e. cc; numbers = λ m n e. cc }
 
 vertex-requires : tie.Need-vertex-requires
 vertex-requires c κs = search needs
@@ -20,10 +29,20 @@ enum-known-n : tie.Need-enum-known-n
 enum-known-n c = search needs
 
 returns : tie.Need-returns
-returns c = rw (← c .before .before .before .before .before .vertex .ensures, c .before .before .before .r .given .1) (refl, (c .before .vertex-value .ensures, c .vertex-own .ensures))
+unfolding vertexAnswer
+returns c =
+    let s = c .before .before .before .before .before .before .before .before .args in
+    let t = decode (s .room .now) (s .words .now) (s .reals .now) .vertices in
+    let p = given cases (lookupRefusal (s .room .now) (s .words .now) (s .reals .now) t (s .id)) (seenVertex (t .slot (s .id))) _ (sym (c .before .before .before .before .before .vertex .ensures) ∙ c .before .before .before .r .given .1) in
+    (p .0, (c .before .vertex-value .ensures ∙ ap vertexValue (p .1), c .vertex-own .ensures ∙ ap vertexReals (p .1)))
 
 returns-2 : tie.Need-returns-2
-returns-2 c = rw (← c .before .before .before .vertex .ensures, c .before .n .given .1) (refl, (refl, refl))
+unfolding vertexAnswer
+returns-2 c =
+    let s = c .before .before .before .before .before .before .args in
+    let t = decode (s .room .now) (s .words .now) (s .reals .now) .vertices in
+    let p = denied cases (lookupRefusal (s .room .now) (s .words .now) (s .reals .now) t (s .id)) (seenVertex (t .slot (s .id))) _ (sym (c .before .before .before .vertex .ensures) ∙ c .before .n .given .1) in
+    (p .0, rw (p .1) (refl, refl))
 
 pub vertex-spec : {M : Type 1} → statement M
 vertex-spec =

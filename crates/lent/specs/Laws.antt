@@ -1,0 +1,22 @@
+-- What the proofs cite of an answer that is an enum: its number and its value, behind a match. Assumes nothing.
+use Prim.Native.Nat.{ℕ, zero, suc, _-_}
+use mathlib.Core.Path.{_≡_, refl, sym}
+use native.Mathlib.Omega.{arith}
+use Rattle.geometry.specs.Refuse.{answer}
+
+-- the two cases of the enum differ, and each holds what it was made of
+pub record Cases {B A : Type 0} (is : B → A) (refused : ℕ → A) : Type 0 where
+  pub apart : (b : B) (m : ℕ) → is b ≡ refused m → _≡_ {A = ℕ} 0 1
+  pub values : (a b : B) → is a ≡ is b → a ≡ b
+  pub numbers : (m n : ℕ) → refused m ≡ refused n → m ≡ n
+
+module _ {B A : Type 0} {is : B → A} {refused : ℕ → A} (cases : Cases is refused) where
+  -- in the arm of a value: the number is 0, and the value is the answer's
+  pub given : (n : ℕ) (v b : B) → answer is refused n v ≡ is b → (0 ≡ n) × (b ≡ v)
+  given zero v b e = (refl, sym (cases .values v b e))
+  given (suc n) v b e = let z : _≡_ {A = ℕ} 0 1 = cases .apart b (suc n) (sym e) in absurd (omega arith)
+
+  -- in the arm of a refusal: the number is the answer's, and not 0
+  pub denied : (n : ℕ) (v : B) (m : ℕ) → answer is refused n v ≡ refused m → (m ≡ n) × (m ≡ suc (m - 1))
+  denied zero v m e = let z : _≡_ {A = ℕ} 0 1 = cases .apart v m e in absurd (omega arith)
+  denied (suc n) v m e = let h : m ≡ suc n = sym (cases .numbers (suc n) m e) in (h, omega arith)
