@@ -6,6 +6,8 @@ use lib.Ieee.{Float}
 use denote.Ref.{RefT}
 use denote.Triple.Both.{Both}
 use Rattle.geometry.specs.Refuse.{answer}
+use Rattle.meaning.specs.Model.{Model}
+use Rattle.model.specs.Decode.{decode}
 use Rattle.frame.specs.Put.{unlessRefused}
 
 -- what stood behind a reference at entry, `now (x .entry)`
@@ -16,10 +18,15 @@ was x = x .entry .now
 abbrev pub lent : {A P Q R : Type 0} → (List ℕ → List ℕ → List Float → A) → Both (RefT (List ℕ)) P → Both (RefT (List ℕ)) Q → Both (RefT (List Float)) R → A
 lent f room words reals = f (was room) (was words) (was reals)
 
+-- the model that the lent memory held at entry
+abbrev pub held : {P Q R : Type 0} → Both (RefT (List ℕ)) P → Both (RefT (List ℕ)) Q → Both (RefT (List Float)) R → Model
+held = lent decode
+
 -- a value that fills its slots alone
 abbrev pub alone : {A : Type 0} → A → List A
 alone v = v ∷ []
 
--- an answer a that is an enum, crossed to C: whatever number and value it is made of, r is the number, and the slots, which held old, hold the value, or old where it is refused
+-- an answer a that is an enum (01, "a definition gives this paper's number and values for each case of the enum": `answer`), crossed to C: whatever number and value it is
+-- made of, r is the number, and the slots, which held old, hold the value, or old where it is refused
 pub record Crosses {B A S : Type 0} (is : B → A) (refused : ℕ → A) (value : B → S) (a : A) (r : ℕ) (old new : S) : Type 0 where
   pub crossed : (n : ℕ) (b : B) → a ≡ answer is refused n b → (r ≡ n) × (new ≡ unlessRefused r (value b) old)

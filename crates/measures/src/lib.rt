@@ -10,18 +10,17 @@ use handed::put_volume;
 use splits::split_line_edge;
 use volumes::body_volume;
 ghost use mathlib.Core.Path.{_≡_};
-ghost use lib.ListN.{length, replicate};
 ghost use mathlib.Core.List.{[], _∷_};
+ghost use lib.ListN.{length, replicate};
 ghost use Rattle.meaning.specs.Faults.{sawing};
 ghost use Rattle.model.specs.Layout.{word};
-ghost use Rattle.model.specs.Decode.{decode};
 ghost use Rattle.frame.specs.Put.{unlessRefused};
 ghost use Rattle.checker.specs.Calls.{asked, checkNumber, checkWords};
 ghost use Rattle.boxes.specs.Answers.{boxNumber};
 ghost use Rattle.volumes.specs.Answers.{volumeNumber};
 ghost use Rattle.cuts.specs.SplitNumber.{splitNumber};
 ghost use Rattle.splits.specs.After.{splitWords, splitReals};
-ghost use Rattle.lent.specs.Lent.{was, lent};
+ghost use Rattle.lent.specs.Lent.{was, lent, held};
 ghost use Rattle.handed.specs.Handed.{wanted};
 ghost use Rattle.measures.specs.Measured.{boxValue, volumeValue, reportValue, fitValue};
 
@@ -37,7 +36,7 @@ pub fn box_of(
     value: &mut [f64; 6],
 ) -> u32
     ensures answer { λ r. ⌜ r ≡ lent boxNumber room words reals body (was faces) (was edges) (was vertices) ⌝ }
-    ensures slots { λ r. ⌜ now (value .exit) ≡ unlessRefused r (boxValue (lent decode room words reals) body) (was value) ⌝ }
+    ensures slots { λ r. ⌜ now (value .exit) ≡ unlessRefused r (boxValue (held room words reals) body) (was value) ⌝ }
     ensures faces { λ _. ⌜ now (faces .exit) ≡ replicate (length (was faces)) 0 ⌝ }
     ensures edges { λ _. ⌜ now (edges .exit) ≡ replicate (length (was edges)) 0 ⌝ }
     ensures vertices { λ _. ⌜ now (vertices .exit) ≡ replicate (length (was vertices)) 0 ⌝ }
@@ -55,7 +54,7 @@ pub fn volume_of(
     value: &mut [f64; 1],
 ) -> u32
     ensures answer { λ r. ⌜ r ≡ lent volumeNumber room words reals body (was faces) ⌝ }
-    ensures slots { λ r. ⌜ now (value .exit) ≡ unlessRefused r (volumeValue (lent decode room words reals) body) (was value) ⌝ }
+    ensures slots { λ r. ⌜ now (value .exit) ≡ unlessRefused r (volumeValue (held room words reals) body) (was value) ⌝ }
     ensures faces { λ _. ⌜ now (faces .exit) ≡ replicate (length (was faces)) 0 ⌝ }
 {
     let answer = body_volume(room, words, reals, body, faces);
@@ -124,7 +123,7 @@ pub fn fit_of(
     value: &mut [u32; 1],
 ) -> u32
     ensures answer { λ r. ⌜ r ≡ lent checkNumber room words reals body sawing (was faces) (was edges) ⌝ }
-    ensures slots { λ r. ⌜ now (value .exit) ≡ unlessRefused r (fitValue (lent decode room words reals) body) (was value) ⌝ }
+    ensures slots { λ r. ⌜ now (value .exit) ≡ unlessRefused r (fitValue (held room words reals) body) (was value) ⌝ }
     ensures faces { λ _. ⌜ now (faces .exit) ≡ replicate (length (was faces)) 0 ⌝ }
     ensures edges { λ _. ⌜ now (edges .exit) ≡ replicate (length (was edges)) 0 ⌝ }
 {

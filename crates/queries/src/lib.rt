@@ -15,7 +15,6 @@ ghost use lib.Dec.{ltb};
 ghost use Rattle.geometry.specs.Refuse.{_unless_, _then_};
 ghost use Rattle.meaning.specs.Walks.{endsOf};
 ghost use Rattle.model.specs.Layout.{word};
-ghost use Rattle.model.specs.Decode.{decode};
 ghost use Rattle.model.specs.Readable.{readable};
 ghost use Rattle.model.specs.Entries.{listOf, entryRefusal};
 ghost use Rattle.present.specs.Answers.{contained};
@@ -23,14 +22,14 @@ ghost use Rattle.bounds.specs.Answers.{boundsNumber};
 ghost use Rattle.tips.specs.Answers.{seenEnds, finVerticesNumber};
 ghost use Rattle.frame.specs.Put.{unlessRefused};
 ghost use Rattle.coded.specs.Tags.{mark};
-ghost use Rattle.lent.specs.Lent.{was, lent};
+ghost use Rattle.lent.specs.Lent.{was, lent, held};
 ghost use Rattle.crossings.specs.Crossing.{tipsValue, rangeValue};
 ghost use Rattle.crossings.specs.Given.{entityOf};
 
 // The session precision.
 pub fn precision(room: &[usize; 10], words: &[u32], reals: &[f64], value: &mut [f64; 1]) -> u32
     ensures answer { λ r. ⌜ r ≡ 9 unless lent readable room words reals ⌝ }
-    ensures slots { λ r. ⌜ now (value .exit) ≡ unlessRefused r (lent decode room words reals .precision ∷ []) (was value) ⌝ }
+    ensures slots { λ r. ⌜ now (value .exit) ≡ unlessRefused r (held room words reals .precision ∷ []) (was value) ⌝ }
 {
     match present::precision(room, words, reals) {
         PrecisionFound::Is(p) => {
@@ -73,7 +72,7 @@ pub fn contains(
     value: &mut [u32; 1],
 ) -> u32
     ensures answer { λ r. ⌜ r ≡ 9 unless lent readable room words reals then 1 unless ltb class 8 ⌝ }
-    ensures slots { λ r. ⌜ now (value .exit) ≡ unlessRefused r (mark (contained (lent decode room words reals) (entityOf class id)) ∷ []) (was value) ⌝ }
+    ensures slots { λ r. ⌜ now (value .exit) ≡ unlessRefused r (mark (contained (held room words reals) (entityOf class id)) ∷ []) (was value) ⌝ }
 {
     if 8 <= class {
         return unknown_tag(room, words, reals);
@@ -97,7 +96,7 @@ pub fn fin_vertices(
     value: &mut [u32; 4],
 ) -> u32
     ensures answer { λ r. ⌜ r ≡ lent finVerticesNumber room words reals fin ⌝ }
-    ensures slots { λ r. ⌜ now (value .exit) ≡ unlessRefused r (tipsValue (seenEnds (endsOf (lent decode room words reals) fin))) (was value) ⌝ }
+    ensures slots { λ r. ⌜ now (value .exit) ≡ unlessRefused r (tipsValue (seenEnds (endsOf (held room words reals) fin))) (was value) ⌝ }
 {
     match tips::fin_vertices(room, words, reals, fin) {
         FinVertices::Is(t) => {
@@ -117,7 +116,7 @@ pub fn bounds_of(
     value: &mut [f64; 2],
 ) -> u32
     ensures answer { λ r. ⌜ r ≡ lent boundsNumber room words reals edge ⌝ }
-    ensures slots { λ r. ⌜ now (value .exit) ≡ unlessRefused r (rangeValue (lent decode room words reals) edge) (was value) ⌝ }
+    ensures slots { λ r. ⌜ now (value .exit) ≡ unlessRefused r (rangeValue (held room words reals) edge) (was value) ⌝ }
 {
     match edge_parameter_bounds(room, words, reals, edge) {
         Bounds::Is(r) => {

@@ -23,12 +23,11 @@ use lookup::VertexFound;
 ghost use mathlib.Core.Path.{_≡_};
 ghost use Rattle.geometry.specs.Refuse.{_unless_, _then_};
 ghost use Rattle.meaning.specs.Model.{has};
-ghost use Rattle.model.specs.Decode.{decode};
 ghost use Rattle.model.specs.Readable.{readable};
 ghost use Rattle.frame.specs.Put.{unlessRefused};
 ghost use Rattle.entity.specs.Seen.{seenBody, seenRegion, seenShell, seenFace, seenLoop, seenFin, seenEdge, seenVertex};
 ghost use Rattle.fields.specs.Fields.{carrierFields, carrierFloats};
-ghost use Rattle.lent.specs.Lent.{was, lent};
+ghost use Rattle.lent.specs.Lent.{was, lent, held};
 ghost use Rattle.crossings.specs.Crossing.{bodyValue, regionValue, shellValue, faceValue, loopValue, finValue, edgeValue, vertexValue, edgeReals, vertexReals};
 
 pub fn body(
@@ -38,8 +37,8 @@ pub fn body(
     id: usize,
     value: &mut [u32; 2],
 ) -> u32
-    ensures answer { λ r. ⌜ r ≡ 9 unless lent readable room words reals then 2 unless has (lent decode room words reals .bodies) id ⌝ }
-    ensures slots { λ r. ⌜ now (value .exit) ≡ unlessRefused r (bodyValue (seenBody (lent decode room words reals .bodies .slot id))) (was value) ⌝ }
+    ensures answer { λ r. ⌜ r ≡ 9 unless lent readable room words reals then 2 unless has (held room words reals .bodies) id ⌝ }
+    ensures slots { λ r. ⌜ now (value .exit) ≡ unlessRefused r (bodyValue (seenBody (held room words reals .bodies .slot id))) (was value) ⌝ }
 {
     match lookup::body(room, words, reals, id) {
         BodyFound::Is(r) => {
@@ -57,8 +56,8 @@ pub fn region(
     id: usize,
     value: &mut [u32; 3],
 ) -> u32
-    ensures answer { λ r. ⌜ r ≡ 9 unless lent readable room words reals then 2 unless has (lent decode room words reals .regions) id ⌝ }
-    ensures slots { λ r. ⌜ now (value .exit) ≡ unlessRefused r (regionValue (seenRegion (lent decode room words reals .regions .slot id))) (was value) ⌝ }
+    ensures answer { λ r. ⌜ r ≡ 9 unless lent readable room words reals then 2 unless has (held room words reals .regions) id ⌝ }
+    ensures slots { λ r. ⌜ now (value .exit) ≡ unlessRefused r (regionValue (seenRegion (held room words reals .regions .slot id))) (was value) ⌝ }
 {
     match lookup::region(room, words, reals, id) {
         RegionFound::Is(r) => {
@@ -76,8 +75,8 @@ pub fn shell(
     id: usize,
     value: &mut [u32; 4],
 ) -> u32
-    ensures answer { λ r. ⌜ r ≡ 9 unless lent readable room words reals then 2 unless has (lent decode room words reals .shells) id ⌝ }
-    ensures slots { λ r. ⌜ now (value .exit) ≡ unlessRefused r (shellValue (seenShell (lent decode room words reals .shells .slot id))) (was value) ⌝ }
+    ensures answer { λ r. ⌜ r ≡ 9 unless lent readable room words reals then 2 unless has (held room words reals .shells) id ⌝ }
+    ensures slots { λ r. ⌜ now (value .exit) ≡ unlessRefused r (shellValue (seenShell (held room words reals .shells .slot id))) (was value) ⌝ }
 {
     match lookup::shell(room, words, reals, id) {
         ShellFound::Is(r) => {
@@ -95,8 +94,8 @@ pub fn face(
     id: usize,
     value: &mut [u32; 8],
 ) -> u32
-    ensures answer { λ r. ⌜ r ≡ 9 unless lent readable room words reals then 2 unless has (lent decode room words reals .faces) id ⌝ }
-    ensures slots { λ r. ⌜ now (value .exit) ≡ unlessRefused r (faceValue (seenFace (lent decode room words reals .faces .slot id))) (was value) ⌝ }
+    ensures answer { λ r. ⌜ r ≡ 9 unless lent readable room words reals then 2 unless has (held room words reals .faces) id ⌝ }
+    ensures slots { λ r. ⌜ now (value .exit) ≡ unlessRefused r (faceValue (seenFace (held room words reals .faces .slot id))) (was value) ⌝ }
 {
     match lookup::face(room, words, reals, id) {
         FaceFound::Is(r) => {
@@ -114,8 +113,8 @@ pub fn loop_(
     id: usize,
     value: &mut [u32; 2],
 ) -> u32
-    ensures answer { λ r. ⌜ r ≡ 9 unless lent readable room words reals then 2 unless has (lent decode room words reals .loops) id ⌝ }
-    ensures slots { λ r. ⌜ now (value .exit) ≡ unlessRefused r (loopValue (seenLoop (lent decode room words reals .loops .slot id))) (was value) ⌝ }
+    ensures answer { λ r. ⌜ r ≡ 9 unless lent readable room words reals then 2 unless has (held room words reals .loops) id ⌝ }
+    ensures slots { λ r. ⌜ now (value .exit) ≡ unlessRefused r (loopValue (seenLoop (held room words reals .loops .slot id))) (was value) ⌝ }
 {
     match lookup::loop_(room, words, reals, id) {
         LoopFound::Is(r) => {
@@ -127,8 +126,8 @@ pub fn loop_(
 }
 
 pub fn fin(room: &[usize; 10], words: &[u32], reals: &[f64], id: usize, value: &mut [u32; 4]) -> u32
-    ensures answer { λ r. ⌜ r ≡ 9 unless lent readable room words reals then 2 unless has (lent decode room words reals .fins) id ⌝ }
-    ensures slots { λ r. ⌜ now (value .exit) ≡ unlessRefused r (finValue (seenFin (lent decode room words reals .fins .slot id))) (was value) ⌝ }
+    ensures answer { λ r. ⌜ r ≡ 9 unless lent readable room words reals then 2 unless has (held room words reals .fins) id ⌝ }
+    ensures slots { λ r. ⌜ now (value .exit) ≡ unlessRefused r (finValue (seenFin (held room words reals .fins .slot id))) (was value) ⌝ }
 {
     match lookup::fin(room, words, reals, id) {
         FinFound::Is(r) => {
@@ -147,9 +146,9 @@ pub fn edge(
     value: &mut [u32; 8],
     floats: &mut [f64; 1],
 ) -> u32
-    ensures answer { λ r. ⌜ r ≡ 9 unless lent readable room words reals then 2 unless has (lent decode room words reals .edges) id ⌝ }
-    ensures slots { λ r. ⌜ now (value .exit) ≡ unlessRefused r (edgeValue (seenEdge (lent decode room words reals .edges .slot id))) (was value) ⌝ }
-    ensures floats { λ r. ⌜ now (floats .exit) ≡ unlessRefused r (edgeReals (seenEdge (lent decode room words reals .edges .slot id))) (was floats) ⌝ }
+    ensures answer { λ r. ⌜ r ≡ 9 unless lent readable room words reals then 2 unless has (held room words reals .edges) id ⌝ }
+    ensures slots { λ r. ⌜ now (value .exit) ≡ unlessRefused r (edgeValue (seenEdge (held room words reals .edges .slot id))) (was value) ⌝ }
+    ensures floats { λ r. ⌜ now (floats .exit) ≡ unlessRefused r (edgeReals (seenEdge (held room words reals .edges .slot id))) (was floats) ⌝ }
 {
     match lookup::edge(room, words, reals, id) {
         EdgeFound::Is(r) => {
@@ -169,9 +168,9 @@ pub fn vertex(
     value: &mut [u32; 1],
     floats: &mut [f64; 4],
 ) -> u32
-    ensures answer { λ r. ⌜ r ≡ 9 unless lent readable room words reals then 2 unless has (lent decode room words reals .vertices) id ⌝ }
-    ensures slots { λ r. ⌜ now (value .exit) ≡ unlessRefused r (vertexValue (seenVertex (lent decode room words reals .vertices .slot id))) (was value) ⌝ }
-    ensures floats { λ r. ⌜ now (floats .exit) ≡ unlessRefused r (vertexReals (seenVertex (lent decode room words reals .vertices .slot id))) (was floats) ⌝ }
+    ensures answer { λ r. ⌜ r ≡ 9 unless lent readable room words reals then 2 unless has (held room words reals .vertices) id ⌝ }
+    ensures slots { λ r. ⌜ now (value .exit) ≡ unlessRefused r (vertexValue (seenVertex (held room words reals .vertices .slot id))) (was value) ⌝ }
+    ensures floats { λ r. ⌜ now (floats .exit) ≡ unlessRefused r (vertexReals (seenVertex (held room words reals .vertices .slot id))) (was floats) ⌝ }
 {
     match lookup::vertex(room, words, reals, id) {
         VertexFound::Is(r) => {
@@ -191,9 +190,9 @@ pub fn curve(
     value: &mut [u32; 1],
     floats: &mut [f64; 6],
 ) -> u32
-    ensures answer { λ r. ⌜ r ≡ 9 unless lent readable room words reals then 2 unless has (lent decode room words reals .curves) id ⌝ }
-    ensures slots { λ r. ⌜ now (value .exit) ≡ unlessRefused r (carrierFields (lent decode room words reals .curves .slot id)) (was value) ⌝ }
-    ensures floats { λ r. ⌜ now (floats .exit) ≡ unlessRefused r (carrierFloats (lent decode room words reals .curves .slot id)) (was floats) ⌝ }
+    ensures answer { λ r. ⌜ r ≡ 9 unless lent readable room words reals then 2 unless has (held room words reals .curves) id ⌝ }
+    ensures slots { λ r. ⌜ now (value .exit) ≡ unlessRefused r (carrierFields (held room words reals .curves .slot id)) (was value) ⌝ }
+    ensures floats { λ r. ⌜ now (floats .exit) ≡ unlessRefused r (carrierFloats (held room words reals .curves .slot id)) (was floats) ⌝ }
 {
     match lookup::curve(room, words, reals, id) {
         CarrierFound::Is(r) => {
@@ -213,9 +212,9 @@ pub fn surface(
     value: &mut [u32; 1],
     floats: &mut [f64; 6],
 ) -> u32
-    ensures answer { λ r. ⌜ r ≡ 9 unless lent readable room words reals then 2 unless has (lent decode room words reals .surfaces) id ⌝ }
-    ensures slots { λ r. ⌜ now (value .exit) ≡ unlessRefused r (carrierFields (lent decode room words reals .surfaces .slot id)) (was value) ⌝ }
-    ensures floats { λ r. ⌜ now (floats .exit) ≡ unlessRefused r (carrierFloats (lent decode room words reals .surfaces .slot id)) (was floats) ⌝ }
+    ensures answer { λ r. ⌜ r ≡ 9 unless lent readable room words reals then 2 unless has (held room words reals .surfaces) id ⌝ }
+    ensures slots { λ r. ⌜ now (value .exit) ≡ unlessRefused r (carrierFields (held room words reals .surfaces .slot id)) (was value) ⌝ }
+    ensures floats { λ r. ⌜ now (floats .exit) ≡ unlessRefused r (carrierFloats (held room words reals .surfaces .slot id)) (was floats) ⌝ }
 {
     match lookup::surface(room, words, reals, id) {
         CarrierFound::Is(r) => {

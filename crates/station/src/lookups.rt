@@ -4,14 +4,13 @@ ghost use mathlib.Core.List.{[], _∷_};
 ghost use lib.Dec.{ltb};
 ghost use Rattle.geometry.specs.Refuse.{_unless_, _then_};
 ghost use Rattle.meaning.specs.Model.{has};
-ghost use Rattle.model.specs.Decode.{decode};
 ghost use Rattle.model.specs.Readable.{readable};
 ghost use Rattle.present.specs.Answers.{contained};
 ghost use Rattle.frame.specs.Put.{unlessRefused};
 ghost use Rattle.entity.specs.Seen.{seenBody, seenRegion, seenShell, seenFace, seenLoop, seenFin, seenEdge, seenVertex};
 ghost use Rattle.coded.specs.Tags.{mark};
 ghost use Rattle.fields.specs.Fields.{carrierFields, carrierFloats};
-ghost use Rattle.lent.specs.Lent.{was, lent};
+ghost use Rattle.lent.specs.Lent.{was, lent, held};
 ghost use Rattle.crossings.specs.Crossing.{bodyValue, regionValue, shellValue, faceValue, loopValue, finValue, edgeValue, vertexValue, edgeReals, vertexReals};
 ghost use Rattle.crossings.specs.Given.{entityOf};
 
@@ -23,8 +22,8 @@ pub extern "C" fn brunskerl_body(
     id: usize,
     value: &mut [u32; 2],
 ) -> u32
-    ensures answer { λ r. ⌜ r ≡ 9 unless lent readable room words reals then 2 unless has (lent decode room words reals .bodies) id ⌝ }
-    ensures slots { λ r. ⌜ now (value .exit) ≡ unlessRefused r (bodyValue (seenBody (lent decode room words reals .bodies .slot id))) (was value) ⌝ }
+    ensures answer { λ r. ⌜ r ≡ 9 unless lent readable room words reals then 2 unless has (held room words reals .bodies) id ⌝ }
+    ensures slots { λ r. ⌜ now (value .exit) ≡ unlessRefused r (bodyValue (seenBody (held room words reals .bodies .slot id))) (was value) ⌝ }
 {
     readings::body(room, words, reals, id, value)
 }
@@ -37,8 +36,8 @@ pub extern "C" fn brunskerl_region(
     id: usize,
     value: &mut [u32; 3],
 ) -> u32
-    ensures answer { λ r. ⌜ r ≡ 9 unless lent readable room words reals then 2 unless has (lent decode room words reals .regions) id ⌝ }
-    ensures slots { λ r. ⌜ now (value .exit) ≡ unlessRefused r (regionValue (seenRegion (lent decode room words reals .regions .slot id))) (was value) ⌝ }
+    ensures answer { λ r. ⌜ r ≡ 9 unless lent readable room words reals then 2 unless has (held room words reals .regions) id ⌝ }
+    ensures slots { λ r. ⌜ now (value .exit) ≡ unlessRefused r (regionValue (seenRegion (held room words reals .regions .slot id))) (was value) ⌝ }
 {
     readings::region(room, words, reals, id, value)
 }
@@ -51,8 +50,8 @@ pub extern "C" fn brunskerl_shell(
     id: usize,
     value: &mut [u32; 4],
 ) -> u32
-    ensures answer { λ r. ⌜ r ≡ 9 unless lent readable room words reals then 2 unless has (lent decode room words reals .shells) id ⌝ }
-    ensures slots { λ r. ⌜ now (value .exit) ≡ unlessRefused r (shellValue (seenShell (lent decode room words reals .shells .slot id))) (was value) ⌝ }
+    ensures answer { λ r. ⌜ r ≡ 9 unless lent readable room words reals then 2 unless has (held room words reals .shells) id ⌝ }
+    ensures slots { λ r. ⌜ now (value .exit) ≡ unlessRefused r (shellValue (seenShell (held room words reals .shells .slot id))) (was value) ⌝ }
 {
     readings::shell(room, words, reals, id, value)
 }
@@ -65,8 +64,8 @@ pub extern "C" fn brunskerl_face(
     id: usize,
     value: &mut [u32; 8],
 ) -> u32
-    ensures answer { λ r. ⌜ r ≡ 9 unless lent readable room words reals then 2 unless has (lent decode room words reals .faces) id ⌝ }
-    ensures slots { λ r. ⌜ now (value .exit) ≡ unlessRefused r (faceValue (seenFace (lent decode room words reals .faces .slot id))) (was value) ⌝ }
+    ensures answer { λ r. ⌜ r ≡ 9 unless lent readable room words reals then 2 unless has (held room words reals .faces) id ⌝ }
+    ensures slots { λ r. ⌜ now (value .exit) ≡ unlessRefused r (faceValue (seenFace (held room words reals .faces .slot id))) (was value) ⌝ }
 {
     readings::face(room, words, reals, id, value)
 }
@@ -79,8 +78,8 @@ pub extern "C" fn brunskerl_loop(
     id: usize,
     value: &mut [u32; 2],
 ) -> u32
-    ensures answer { λ r. ⌜ r ≡ 9 unless lent readable room words reals then 2 unless has (lent decode room words reals .loops) id ⌝ }
-    ensures slots { λ r. ⌜ now (value .exit) ≡ unlessRefused r (loopValue (seenLoop (lent decode room words reals .loops .slot id))) (was value) ⌝ }
+    ensures answer { λ r. ⌜ r ≡ 9 unless lent readable room words reals then 2 unless has (held room words reals .loops) id ⌝ }
+    ensures slots { λ r. ⌜ now (value .exit) ≡ unlessRefused r (loopValue (seenLoop (held room words reals .loops .slot id))) (was value) ⌝ }
 {
     readings::loop_(room, words, reals, id, value)
 }
@@ -93,8 +92,8 @@ pub extern "C" fn brunskerl_fin(
     id: usize,
     value: &mut [u32; 4],
 ) -> u32
-    ensures answer { λ r. ⌜ r ≡ 9 unless lent readable room words reals then 2 unless has (lent decode room words reals .fins) id ⌝ }
-    ensures slots { λ r. ⌜ now (value .exit) ≡ unlessRefused r (finValue (seenFin (lent decode room words reals .fins .slot id))) (was value) ⌝ }
+    ensures answer { λ r. ⌜ r ≡ 9 unless lent readable room words reals then 2 unless has (held room words reals .fins) id ⌝ }
+    ensures slots { λ r. ⌜ now (value .exit) ≡ unlessRefused r (finValue (seenFin (held room words reals .fins .slot id))) (was value) ⌝ }
 {
     readings::fin(room, words, reals, id, value)
 }
@@ -108,9 +107,9 @@ pub extern "C" fn brunskerl_edge(
     value: &mut [u32; 8],
     floats: &mut [f64; 1],
 ) -> u32
-    ensures answer { λ r. ⌜ r ≡ 9 unless lent readable room words reals then 2 unless has (lent decode room words reals .edges) id ⌝ }
-    ensures slots { λ r. ⌜ now (value .exit) ≡ unlessRefused r (edgeValue (seenEdge (lent decode room words reals .edges .slot id))) (was value) ⌝ }
-    ensures floats { λ r. ⌜ now (floats .exit) ≡ unlessRefused r (edgeReals (seenEdge (lent decode room words reals .edges .slot id))) (was floats) ⌝ }
+    ensures answer { λ r. ⌜ r ≡ 9 unless lent readable room words reals then 2 unless has (held room words reals .edges) id ⌝ }
+    ensures slots { λ r. ⌜ now (value .exit) ≡ unlessRefused r (edgeValue (seenEdge (held room words reals .edges .slot id))) (was value) ⌝ }
+    ensures floats { λ r. ⌜ now (floats .exit) ≡ unlessRefused r (edgeReals (seenEdge (held room words reals .edges .slot id))) (was floats) ⌝ }
 {
     readings::edge(room, words, reals, id, value, floats)
 }
@@ -124,9 +123,9 @@ pub extern "C" fn brunskerl_vertex(
     value: &mut [u32; 1],
     floats: &mut [f64; 4],
 ) -> u32
-    ensures answer { λ r. ⌜ r ≡ 9 unless lent readable room words reals then 2 unless has (lent decode room words reals .vertices) id ⌝ }
-    ensures slots { λ r. ⌜ now (value .exit) ≡ unlessRefused r (vertexValue (seenVertex (lent decode room words reals .vertices .slot id))) (was value) ⌝ }
-    ensures floats { λ r. ⌜ now (floats .exit) ≡ unlessRefused r (vertexReals (seenVertex (lent decode room words reals .vertices .slot id))) (was floats) ⌝ }
+    ensures answer { λ r. ⌜ r ≡ 9 unless lent readable room words reals then 2 unless has (held room words reals .vertices) id ⌝ }
+    ensures slots { λ r. ⌜ now (value .exit) ≡ unlessRefused r (vertexValue (seenVertex (held room words reals .vertices .slot id))) (was value) ⌝ }
+    ensures floats { λ r. ⌜ now (floats .exit) ≡ unlessRefused r (vertexReals (seenVertex (held room words reals .vertices .slot id))) (was floats) ⌝ }
 {
     readings::vertex(room, words, reals, id, value, floats)
 }
@@ -140,9 +139,9 @@ pub extern "C" fn brunskerl_curve(
     value: &mut [u32; 1],
     floats: &mut [f64; 6],
 ) -> u32
-    ensures answer { λ r. ⌜ r ≡ 9 unless lent readable room words reals then 2 unless has (lent decode room words reals .curves) id ⌝ }
-    ensures slots { λ r. ⌜ now (value .exit) ≡ unlessRefused r (carrierFields (lent decode room words reals .curves .slot id)) (was value) ⌝ }
-    ensures floats { λ r. ⌜ now (floats .exit) ≡ unlessRefused r (carrierFloats (lent decode room words reals .curves .slot id)) (was floats) ⌝ }
+    ensures answer { λ r. ⌜ r ≡ 9 unless lent readable room words reals then 2 unless has (held room words reals .curves) id ⌝ }
+    ensures slots { λ r. ⌜ now (value .exit) ≡ unlessRefused r (carrierFields (held room words reals .curves .slot id)) (was value) ⌝ }
+    ensures floats { λ r. ⌜ now (floats .exit) ≡ unlessRefused r (carrierFloats (held room words reals .curves .slot id)) (was floats) ⌝ }
 {
     readings::curve(room, words, reals, id, value, floats)
 }
@@ -156,9 +155,9 @@ pub extern "C" fn brunskerl_surface(
     value: &mut [u32; 1],
     floats: &mut [f64; 6],
 ) -> u32
-    ensures answer { λ r. ⌜ r ≡ 9 unless lent readable room words reals then 2 unless has (lent decode room words reals .surfaces) id ⌝ }
-    ensures slots { λ r. ⌜ now (value .exit) ≡ unlessRefused r (carrierFields (lent decode room words reals .surfaces .slot id)) (was value) ⌝ }
-    ensures floats { λ r. ⌜ now (floats .exit) ≡ unlessRefused r (carrierFloats (lent decode room words reals .surfaces .slot id)) (was floats) ⌝ }
+    ensures answer { λ r. ⌜ r ≡ 9 unless lent readable room words reals then 2 unless has (held room words reals .surfaces) id ⌝ }
+    ensures slots { λ r. ⌜ now (value .exit) ≡ unlessRefused r (carrierFields (held room words reals .surfaces .slot id)) (was value) ⌝ }
+    ensures floats { λ r. ⌜ now (floats .exit) ≡ unlessRefused r (carrierFloats (held room words reals .surfaces .slot id)) (was floats) ⌝ }
 {
     readings::surface(room, words, reals, id, value, floats)
 }
@@ -174,7 +173,7 @@ pub extern "C" fn brunskerl_contains(
     value: &mut [u32; 1],
 ) -> u32
     ensures answer { λ r. ⌜ r ≡ 9 unless lent readable room words reals then 1 unless ltb class 8 ⌝ }
-    ensures slots { λ r. ⌜ now (value .exit) ≡ unlessRefused r (mark (contained (lent decode room words reals) (entityOf class id)) ∷ []) (was value) ⌝ }
+    ensures slots { λ r. ⌜ now (value .exit) ≡ unlessRefused r (mark (contained (held room words reals) (entityOf class id)) ∷ []) (was value) ⌝ }
 {
     queries::contains(room, words, reals, class, id, value)
 }

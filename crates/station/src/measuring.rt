@@ -1,17 +1,16 @@
 // The box and the volume of a body, the split of an edge, and the report of a body.
 ghost use mathlib.Core.Path.{_≡_};
-ghost use lib.ListN.{length, replicate};
 ghost use mathlib.Core.List.{[], _∷_};
+ghost use lib.ListN.{length, replicate};
 ghost use Rattle.meaning.specs.Faults.{sawing};
 ghost use Rattle.model.specs.Layout.{word};
-ghost use Rattle.model.specs.Decode.{decode};
 ghost use Rattle.frame.specs.Put.{unlessRefused};
 ghost use Rattle.checker.specs.Calls.{asked, checkNumber, checkWords};
 ghost use Rattle.boxes.specs.Answers.{boxNumber};
 ghost use Rattle.volumes.specs.Answers.{volumeNumber};
 ghost use Rattle.cuts.specs.SplitNumber.{splitNumber};
 ghost use Rattle.splits.specs.After.{splitWords, splitReals};
-ghost use Rattle.lent.specs.Lent.{was, lent};
+ghost use Rattle.lent.specs.Lent.{was, lent, held};
 ghost use Rattle.handed.specs.Handed.{wanted};
 ghost use Rattle.measures.specs.Measured.{boxValue, volumeValue, reportValue, fitValue};
 
@@ -28,7 +27,7 @@ pub extern "C" fn brunskerl_body_bounding_box(
     value: &mut [f64; 6],
 ) -> u32
     ensures answer { λ r. ⌜ r ≡ lent boxNumber room words reals body (was faces) (was edges) (was vertices) ⌝ }
-    ensures slots { λ r. ⌜ now (value .exit) ≡ unlessRefused r (boxValue (lent decode room words reals) body) (was value) ⌝ }
+    ensures slots { λ r. ⌜ now (value .exit) ≡ unlessRefused r (boxValue (held room words reals) body) (was value) ⌝ }
     ensures faces { λ _. ⌜ now (faces .exit) ≡ replicate (length (was faces)) 0 ⌝ }
     ensures edges { λ _. ⌜ now (edges .exit) ≡ replicate (length (was edges)) 0 ⌝ }
     ensures vertices { λ _. ⌜ now (vertices .exit) ≡ replicate (length (was vertices)) 0 ⌝ }
@@ -47,7 +46,7 @@ pub extern "C" fn brunskerl_body_volume(
     value: &mut [f64; 1],
 ) -> u32
     ensures answer { λ r. ⌜ r ≡ lent volumeNumber room words reals body (was faces) ⌝ }
-    ensures slots { λ r. ⌜ now (value .exit) ≡ unlessRefused r (volumeValue (lent decode room words reals) body) (was value) ⌝ }
+    ensures slots { λ r. ⌜ now (value .exit) ≡ unlessRefused r (volumeValue (held room words reals) body) (was value) ⌝ }
     ensures faces { λ _. ⌜ now (faces .exit) ≡ replicate (length (was faces)) 0 ⌝ }
 {
     measures::volume_of(room, words, reals, body, faces, value)
@@ -118,7 +117,7 @@ pub extern "C" fn brunskerl_fit_to_saw(
     value: &mut [u32; 1],
 ) -> u32
     ensures answer { λ r. ⌜ r ≡ lent checkNumber room words reals body sawing (was faces) (was edges) ⌝ }
-    ensures slots { λ r. ⌜ now (value .exit) ≡ unlessRefused r (fitValue (lent decode room words reals) body) (was value) ⌝ }
+    ensures slots { λ r. ⌜ now (value .exit) ≡ unlessRefused r (fitValue (held room words reals) body) (was value) ⌝ }
     ensures faces { λ _. ⌜ now (faces .exit) ≡ replicate (length (was faces)) 0 ⌝ }
     ensures edges { λ _. ⌜ now (edges .exit) ≡ replicate (length (was edges)) 0 ⌝ }
 {

@@ -2,11 +2,10 @@
 ghost use mathlib.Core.Path.{_≡_};
 ghost use mathlib.Core.List.{[], _∷_};
 ghost use Rattle.geometry.specs.Refuse.{_unless_};
-ghost use Rattle.model.specs.Decode.{decode};
 ghost use Rattle.model.specs.Readable.{readable};
 ghost use Rattle.frame.specs.Put.{unlessRefused};
 ghost use Rattle.blank.specs.Answers.{makeNumber, makeWords, makeReals};
-ghost use Rattle.lent.specs.Lent.{was, lent};
+ghost use Rattle.lent.specs.Lent.{was, lent, held};
 
 // An empty model with its precision.
 #[no_mangle]
@@ -32,7 +31,7 @@ pub extern "C" fn brunskerl_precision(
     value: &mut [f64; 1],
 ) -> u32
     ensures answer { λ r. ⌜ r ≡ 9 unless lent readable room words reals ⌝ }
-    ensures slots { λ r. ⌜ now (value .exit) ≡ unlessRefused r (lent decode room words reals .precision ∷ []) (was value) ⌝ }
+    ensures slots { λ r. ⌜ now (value .exit) ≡ unlessRefused r (held room words reals .precision ∷ []) (was value) ⌝ }
 {
     queries::precision(room, words, reals, value)
 }

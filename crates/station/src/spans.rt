@@ -1,11 +1,10 @@
 // The ends of a fin, and the parameter bounds of an edge.
 ghost use mathlib.Core.Path.{_≡_};
 ghost use Rattle.meaning.specs.Walks.{endsOf};
-ghost use Rattle.model.specs.Decode.{decode};
 ghost use Rattle.bounds.specs.Answers.{boundsNumber};
 ghost use Rattle.tips.specs.Answers.{seenEnds, finVerticesNumber};
 ghost use Rattle.frame.specs.Put.{unlessRefused};
-ghost use Rattle.lent.specs.Lent.{was, lent};
+ghost use Rattle.lent.specs.Lent.{was, lent, held};
 ghost use Rattle.crossings.specs.Crossing.{tipsValue, rangeValue};
 
 // The start and end vertices of a fin, each as a tag and an id.
@@ -18,7 +17,7 @@ pub extern "C" fn brunskerl_fin_vertices(
     value: &mut [u32; 4],
 ) -> u32
     ensures answer { λ r. ⌜ r ≡ lent finVerticesNumber room words reals fin ⌝ }
-    ensures slots { λ r. ⌜ now (value .exit) ≡ unlessRefused r (tipsValue (seenEnds (endsOf (lent decode room words reals) fin))) (was value) ⌝ }
+    ensures slots { λ r. ⌜ now (value .exit) ≡ unlessRefused r (tipsValue (seenEnds (endsOf (held room words reals) fin))) (was value) ⌝ }
 {
     queries::fin_vertices(room, words, reals, fin, value)
 }
@@ -33,7 +32,7 @@ pub extern "C" fn brunskerl_edge_parameter_bounds(
     value: &mut [f64; 2],
 ) -> u32
     ensures answer { λ r. ⌜ r ≡ lent boundsNumber room words reals edge ⌝ }
-    ensures slots { λ r. ⌜ now (value .exit) ≡ unlessRefused r (rangeValue (lent decode room words reals) edge) (was value) ⌝ }
+    ensures slots { λ r. ⌜ now (value .exit) ≡ unlessRefused r (rangeValue (held room words reals) edge) (was value) ⌝ }
 {
     queries::bounds_of(room, words, reals, edge, value)
 }

@@ -1,8 +1,8 @@
 -- `crossings::put_id` meets its contract. Assumes nothing.
 use mathlib.Core.Path.{sym, ap, _∙_}
 use Rattle.edits.specs.declared.Inserted.the-variants.{At, Refused}
-use Rattle.lent.specs.Laws.{Cases, given, denied}
 use Rattle.lent.specs.Lent.{alone}
+use Rattle.lent.specs.Laws.{Cases, given, denied}
 use borrow.Author.Needs.{needs}
 use Rattle.crossings.proofs.put_id.Statement.{statement}
 use Rattle.crossings.proofs.put_id.Tie as tie

@@ -1,11 +1,11 @@
 -- `queries::bounds_of` meets its contract. Assumes nothing.
 use mathlib.Core.Path.{sym, ap, _∙_}
+use mathlib.Core.List.{[], _∷_}
 use Rattle.bounds.specs.declared.ParamRange.{ParamRange}
 use Rattle.bounds.specs.declared.Bounds.the-variants.{Is, Refused}
 use Rattle.meaning.specs.Split.{lo, hi}
 use Rattle.model.specs.Decode.{decode}
 use Rattle.bounds.specs.Answers.{boundsNumber, boundsAnswer}
-use mathlib.Core.List.{[], _∷_}
 use Rattle.lent.specs.Laws.{Cases, given, denied}
 use borrow.Author.Needs.{needs}
 use Rattle.queries.proofs.bounds_of.Statement.{statement}
