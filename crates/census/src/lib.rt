@@ -4,9 +4,9 @@ use lookup::EdgeFound;
 use lookup::edge;
 use replies::Checked;
 use stones::ROOM;
-use tours::write_edges;
-use tours::write_faces;
-use tours::write_vertices;
+use views::body_edges;
+use views::body_faces;
+use views::body_vertices;
 
 // A refused call counts as more than the stone has of anything.
 const REFUSED: u64 = 1000;
@@ -18,13 +18,13 @@ fn counted(n: usize, code: u32) -> u64 {
     n as u64
 }
 
-// How many faces, edges, vertices the walks of the body list.
+// How many faces, edges, vertices the walks of the body hand back.
 pub fn faces(words: &[u32], reals: &[f64]) -> u64 {
     let mut marks = [0u8; 6];
     let mut out = [0u32; 6];
     let mut code = 0;
-    let n = write_faces(&ROOM, words, reals, 0, &mut marks, &mut out, &mut code);
-    counted(n, code)
+    let part = body_faces(&ROOM, words, reals, 0, &mut marks, &mut out, &mut code);
+    counted(part.len(), code)
 }
 
 pub fn edges(words: &[u32], reals: &[f64]) -> u64 {
@@ -32,7 +32,7 @@ pub fn edges(words: &[u32], reals: &[f64]) -> u64 {
     let mut seen = [0u8; 13];
     let mut out = [0u32; 13];
     let mut code = 0;
-    let n = write_edges(
+    let part = body_edges(
         &ROOM,
         words,
         reals,
@@ -42,7 +42,7 @@ pub fn edges(words: &[u32], reals: &[f64]) -> u64 {
         &mut out,
         &mut code,
     );
-    counted(n, code)
+    counted(part.len(), code)
 }
 
 pub fn vertices(words: &[u32], reals: &[f64]) -> u64 {
@@ -51,7 +51,7 @@ pub fn vertices(words: &[u32], reals: &[f64]) -> u64 {
     let mut met = [0u8; 9];
     let mut out = [0u32; 9];
     let mut code = 0;
-    let n = write_vertices(
+    let part = body_vertices(
         &ROOM,
         words,
         reals,
@@ -62,7 +62,7 @@ pub fn vertices(words: &[u32], reals: &[f64]) -> u64 {
         &mut out,
         &mut code,
     );
-    counted(n, code)
+    counted(part.len(), code)
 }
 
 // How many fins an edge has; a record that is not there has none.
