@@ -5,6 +5,9 @@ use census::faces;
 use census::vertices;
 use checker::check_body;
 use digits::bits_of;
+use entries::Kept;
+use entries::entries;
+use faults::Fault;
 use listed::strike_entry;
 use lookup::VertexFound;
 use lookup::vertex;
@@ -17,6 +20,9 @@ use splits::split_line_edge;
 use stones::ROOM;
 use stones::trial_stone;
 use vectors::vector::Point3;
+use views::body_edges;
+use views::body_faces;
+use views::body_vertices;
 use volumes::body_volume;
 
 fn print_float(x: f64) {
@@ -35,6 +41,83 @@ fn print_refusal(n: u32) {
     io::print_decimal(1, n as u64);
 }
 
+fn print_number(n: u32) {
+    io::write_all(1, b" ");
+    io::print_decimal(1, n as u64);
+}
+
+fn print_ids(ids: &[u32]) {
+    let mut i = 0;
+    while i < ids.len() {
+        print_number(ids[i]);
+        i += 1;
+    }
+}
+
+// The part of a list that a walk handed back, or why it handed back none.
+fn handed(part: &[u32], code: u32) {
+    print_ids(part);
+    if code != 0 {
+        print_refusal(code);
+    }
+    io::write_all(1, b"; the list holds");
+}
+
+// All that the list holds behind the walk.
+fn held(list: &[u32]) {
+    print_ids(list);
+    io::write_all(1, b"\n");
+}
+
+fn faces_into(words: &[u32], reals: &[f64], out: &mut [u32]) {
+    io::write_all(1, b"faces:");
+    let mut marks = [0u8; 6];
+    let mut code = 0;
+    let part = body_faces(&ROOM, words, reals, 0, &mut marks, out, &mut code);
+    handed(part, code);
+    held(out);
+}
+
+fn edges_into(words: &[u32], reals: &[f64], out: &mut [u32]) {
+    io::write_all(1, b"edges:");
+    let mut marks = [0u8; 6];
+    let mut seen = [0u8; 13];
+    let mut code = 0;
+    let part = body_edges(
+        &ROOM,
+        words,
+        reals,
+        0,
+        &mut marks,
+        &mut seen,
+        out,
+        &mut code,
+    );
+    handed(part, code);
+    held(out);
+}
+
+fn vertices_into(words: &[u32], reals: &[f64], out: &mut [u32]) {
+    io::write_all(1, b"vertices:");
+    let mut marks = [0u8; 6];
+    let mut seen = [0u8; 13];
+    let mut met = [0u8; 9];
+    let mut code = 0;
+    let part = body_vertices(
+        &ROOM,
+        words,
+        reals,
+        0,
+        &mut marks,
+        &mut seen,
+        &mut met,
+        out,
+        &mut code,
+    );
+    handed(part, code);
+    held(out);
+}
+
 fn walks(words: &[u32; 8377], reals: &[f64; 158]) {
     let w = &words[..];
     let x = &reals[..];
@@ -45,6 +128,24 @@ fn walks(words: &[u32; 8377], reals: &[f64; 158]) {
     io::write_all(1, b" edges, ");
     io::print_decimal(1, vertices(w, x));
     io::write_all(1, b" vertices\n");
+}
+
+// Lists that hold 99 at each place: one place more than the walk needs, then one less.
+fn lists(words: &[u32; 8377], reals: &[f64; 158]) {
+    let w = &words[..];
+    let x = &reals[..];
+    let mut more = [99u32; 7];
+    faces_into(w, x, &mut more);
+    let mut less = [99u32; 5];
+    faces_into(w, x, &mut less);
+    let mut more = [99u32; 13];
+    edges_into(w, x, &mut more);
+    let mut less = [99u32; 11];
+    edges_into(w, x, &mut less);
+    let mut more = [99u32; 9];
+    vertices_into(w, x, &mut more);
+    let mut less = [99u32; 7];
+    vertices_into(w, x, &mut less);
 }
 
 fn volume(words: &[u32; 8377], reals: &[f64; 158]) {
@@ -109,18 +210,33 @@ fn split_at(words: &mut [u32; 8377], reals: &mut [f64; 158], fraction: f64) {
     io::write_all(1, b"\n");
 }
 
-// The reason of the first fault of a list.
-fn reason_of(list: &[u32; 4]) -> u32 {
-    list[3]
+fn print_fault(f: Fault) {
+    io::write_all(1, b"; kind, class, id, reason:");
+    print_number(f.kind);
+    print_number(f.class);
+    print_number(f.id);
+    print_number(f.reason);
 }
 
-fn print_report(answer: Checked, reason: u32) {
+// The faults that a list of structs begins with.
+fn print_faults(found: Kept) {
+    let list = found.list;
+    let mut i = 0;
+    while i < 4 {
+        if i < found.count {
+            print_fault(list[i]);
+        }
+        i += 1;
+    }
+}
+
+fn print_report(answer: Checked, list: &[u32; 16]) {
     match answer {
         Checked::Is(counts) => {
             io::write_all(1, b" ");
             io::print_decimal(1, counts.faults as u64);
-            io::write_all(1, b" faults, the first of reason ");
-            io::print_decimal(1, reason as u64);
+            io::write_all(1, b" faults");
+            print_faults(entries(&list[..], counts.kept));
         }
         Checked::Refused(n) => print_refusal(n),
     }
@@ -129,7 +245,7 @@ fn print_report(answer: Checked, reason: u32) {
 fn report(words: &[u32; 8377], reals: &[f64; 158]) {
     let mut marks = [0u8; 6];
     let mut seen = [0u8; 13];
-    let mut list = [0u32; 4];
+    let mut list = [0u32; 16];
     let answer = check_body(
         &ROOM,
         words,
@@ -142,7 +258,7 @@ fn report(words: &[u32; 8377], reals: &[f64; 158]) {
         &mut list,
     );
     io::write_all(1, b"report:");
-    print_report(answer, reason_of(&list));
+    print_report(answer, &list);
     io::write_all(1, b"\n");
 }
 
@@ -173,6 +289,7 @@ fn main() {
     let mut reals = [0.0; 158];
     trial_stone(&ROOM, &mut words, &mut reals);
     walks(&words, &reals);
+    lists(&words, &reals);
     volume(&words, &reals);
     corners(&words, &reals);
     splits(&mut words, &mut reals);
