@@ -1,8 +1,5 @@
 // The rows of 01's table 'Trial stone', asked of the code and printed: a float as its bits, a refusal as its number.
 use boxed::body_bounding_box;
-use census::edges;
-use census::faces;
-use census::vertices;
 use checker::check_body;
 use digits::bits_of;
 use entries::Kept;
@@ -54,8 +51,10 @@ fn print_ids(ids: &[u32]) {
     }
 }
 
-// The part of a list that a walk handed back, or why it handed back none.
+// The part of a list that a walk handed back: how many ids, and which, or why none.
 fn handed(part: &[u32], code: u32) {
+    io::print_decimal(1, part.len() as u64);
+    io::write_all(1, b":");
     print_ids(part);
     if code != 0 {
         print_refusal(code);
@@ -70,7 +69,7 @@ fn held(list: &[u32]) {
 }
 
 fn faces_into(words: &[u32], reals: &[f64], out: &mut [u32]) {
-    io::write_all(1, b"faces:");
+    io::write_all(1, b"faces, ");
     let mut marks = [0u8; 6];
     let mut code = 0;
     let part = body_faces(&ROOM, words, reals, 0, &mut marks, out, &mut code);
@@ -79,7 +78,7 @@ fn faces_into(words: &[u32], reals: &[f64], out: &mut [u32]) {
 }
 
 fn edges_into(words: &[u32], reals: &[f64], out: &mut [u32]) {
-    io::write_all(1, b"edges:");
+    io::write_all(1, b"edges, ");
     let mut marks = [0u8; 6];
     let mut seen = [0u8; 13];
     let mut code = 0;
@@ -98,7 +97,7 @@ fn edges_into(words: &[u32], reals: &[f64], out: &mut [u32]) {
 }
 
 fn vertices_into(words: &[u32], reals: &[f64], out: &mut [u32]) {
-    io::write_all(1, b"vertices:");
+    io::write_all(1, b"vertices, ");
     let mut marks = [0u8; 6];
     let mut seen = [0u8; 13];
     let mut met = [0u8; 9];
@@ -118,20 +117,8 @@ fn vertices_into(words: &[u32], reals: &[f64], out: &mut [u32]) {
     held(out);
 }
 
+// The walks into lists that hold 99 at each place: one place more than a walk needs, then one less.
 fn walks(words: &[u32; 8377], reals: &[f64; 158]) {
-    let w = &words[..];
-    let x = &reals[..];
-    io::write_all(1, b"walks: ");
-    io::print_decimal(1, faces(w, x));
-    io::write_all(1, b" faces, ");
-    io::print_decimal(1, edges(w, x));
-    io::write_all(1, b" edges, ");
-    io::print_decimal(1, vertices(w, x));
-    io::write_all(1, b" vertices\n");
-}
-
-// Lists that hold 99 at each place: one place more than the walk needs, then one less.
-fn lists(words: &[u32; 8377], reals: &[f64; 158]) {
     let w = &words[..];
     let x = &reals[..];
     let mut more = [99u32; 7];
@@ -289,7 +276,6 @@ fn main() {
     let mut reals = [0.0; 158];
     trial_stone(&ROOM, &mut words, &mut reals);
     walks(&words, &reals);
-    lists(&words, &reals);
     volume(&words, &reals);
     corners(&words, &reals);
     splits(&mut words, &mut reals);
