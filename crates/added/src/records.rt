@@ -1,9 +1,18 @@
 // The new edge. An edge's words are start tag, id, end tag, id, curve tag, id, tolerance tag, then its fins.
 use model::layout::words_of;
+use model::names::AT_EDGE_CURVE;
+use model::names::AT_EDGE_CURVE_ID;
+use model::names::AT_EDGE_END;
+use model::names::AT_EDGE_END_ID;
+use model::names::AT_EDGE_TOLERANCE;
+use model::names::EDGES;
+use model::names::FINS;
+use model::names::VERTICES;
 use writes::put::put_words;
 ghost use mathlib.Core.Path.{_≡_};
 ghost use Prim.Native.Nat.{_<_, _≤_};
 ghost use lib.ListN.{length};
+ghost use Rattle.model.specs.Names.{EDGES};
 ghost use Rattle.model.specs.Layout.{word};
 ghost use Rattle.pieces.specs.Pieces.{secondPut};
 ghost use Rattle.pieces.specs.Facts.{Slots, secondRoom};
@@ -16,11 +25,11 @@ fn second_room(s: &[u32], vertex: u32, first: u32, n: u32) -> [u32; 16]
     [
         1,
         vertex,
-        s[2],
-        s[3],
-        s[4],
-        s[5],
-        s[6],
+        s[AT_EDGE_END],
+        s[AT_EDGE_END_ID],
+        s[AT_EDGE_CURVE],
+        s[AT_EDGE_CURVE_ID],
+        s[AT_EDGE_TOLERANCE],
         n,
         first,
         first + 1,
@@ -36,13 +45,18 @@ fn second_room(s: &[u32], vertex: u32, first: u32, n: u32) -> [u32; 16]
 // The new edge, with n new fins.
 pub fn put_second(room: &[usize; 10], words: &mut [u32], edge: usize, n: usize)
     requires { ⌜ Slots (now room) (now words) n ⌝ }
-    requires { ⌜ edge < word (now words) 6 ⌝ }
+    requires { ⌜ edge < word (now words) EDGES ⌝ }
     ensures { λ _. ⌜ now (words .exit) ≡ secondPut (now (room .entry)) edge n (now (words .entry)) ⌝ }
 {
-    let new = words[6] as usize;
-    let vertex = words[7];
-    let first = words[5];
-    let half = second_room(words_of(room, &words[..], 6, edge), vertex, first, n as u32);
+    let new = words[EDGES] as usize;
+    let vertex = words[VERTICES];
+    let first = words[FINS];
+    let half = second_room(
+        words_of(room, &words[..], EDGES, edge),
+        vertex,
+        first,
+        n as u32,
+    );
     let end = 8 + n;
-    put_words(room, words, 6, new, 0, &half[..end]);
+    put_words(room, words, EDGES, new, 0, &half[..end]);
 }

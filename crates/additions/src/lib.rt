@@ -18,9 +18,23 @@ use inserts::insert_region;
 use inserts::insert_surface;
 use lone::insert_loop;
 use lone::insert_shell;
+use model::names::AT_BODY_KIND;
+use model::names::AT_FACE_BACK;
+use model::names::AT_FACE_FRONT;
+use model::names::AT_FACE_SENSE;
+use model::names::AT_FACE_SURFACE;
+use model::names::AT_FIN_EDGE;
+use model::names::AT_FIN_LOOP;
+use model::names::AT_FIN_PCURVE;
+use model::names::AT_FIN_SENSE;
+use model::names::AT_LOOP_FACE;
+use model::names::AT_REGION_BODY;
+use model::names::AT_REGION_SOLID;
+use model::names::AT_SHELL_REGION;
 ghost use mathlib.Core.Path.{_≡_};
 ghost use mathlib.Core.Bool.{true};
 ghost use mathlib.Core.List.{[], _∷_};
+ghost use Rattle.model.specs.Names.{BODIES, REGIONS, SHELLS, FACES, LOOPS, FINS, CURVES, SURFACES};
 ghost use Rattle.model.specs.Layout.{word};
 ghost use Rattle.frame.specs.Put.{unlessRefused};
 ghost use Rattle.edits.specs.Answers.{insertNumber, insertWords, insertReals};
@@ -34,15 +48,15 @@ pub fn body(
     value: &[u32; 1],
     id: &mut [u32; 1],
 ) -> u32
-    ensures answer { λ r. ⌜ r ≡ lent insertNumber room words reals (bodyKnown (was value)) 0 ⌝ }
-    ensures slots { λ r. ⌜ now (id .exit) ≡ unlessRefused r (word (was words) 0 ∷ []) (was id) ⌝ }
-    ensures tables { λ _. ⌜ now (words .exit) ≡ lent insertWords room words reals (bodyKnown (was value)) 0 (bodyGiven (was value)) ⌝ }
-    ensures floats { λ _. ⌜ now (reals .exit) ≡ lent insertReals room words reals (bodyKnown (was value)) 0 [] ⌝ }
+    ensures answer { λ r. ⌜ r ≡ lent insertNumber room words reals (bodyKnown (was value)) BODIES ⌝ }
+    ensures slots { λ r. ⌜ now (id .exit) ≡ unlessRefused r (word (was words) BODIES ∷ []) (was id) ⌝ }
+    ensures tables { λ _. ⌜ now (words .exit) ≡ lent insertWords room words reals (bodyKnown (was value)) BODIES (bodyGiven (was value)) ⌝ }
+    ensures floats { λ _. ⌜ now (reals .exit) ≡ lent insertReals room words reals (bodyKnown (was value)) BODIES [] ⌝ }
 {
     if !body_known(value) {
         return unknown_tag(room, &words[..], &reals[..]);
     }
-    let kind = kind_of(value[0]);
+    let kind = kind_of(value[AT_BODY_KIND]);
     put_id(insert_body(room, words, reals, kind), id)
 }
 
@@ -53,16 +67,22 @@ pub fn region(
     value: &[u32; 2],
     id: &mut [u32; 1],
 ) -> u32
-    ensures answer { λ r. ⌜ r ≡ lent insertNumber room words reals (regionKnown (was value)) 1 ⌝ }
-    ensures slots { λ r. ⌜ now (id .exit) ≡ unlessRefused r (word (was words) 1 ∷ []) (was id) ⌝ }
-    ensures tables { λ _. ⌜ now (words .exit) ≡ lent insertWords room words reals (regionKnown (was value)) 1 (regionGiven (was value)) ⌝ }
-    ensures floats { λ _. ⌜ now (reals .exit) ≡ lent insertReals room words reals (regionKnown (was value)) 1 [] ⌝ }
+    ensures answer { λ r. ⌜ r ≡ lent insertNumber room words reals (regionKnown (was value)) REGIONS ⌝ }
+    ensures slots { λ r. ⌜ now (id .exit) ≡ unlessRefused r (word (was words) REGIONS ∷ []) (was id) ⌝ }
+    ensures tables { λ _. ⌜ now (words .exit) ≡ lent insertWords room words reals (regionKnown (was value)) REGIONS (regionGiven (was value)) ⌝ }
+    ensures floats { λ _. ⌜ now (reals .exit) ≡ lent insertReals room words reals (regionKnown (was value)) REGIONS [] ⌝ }
 {
     if !region_known(value) {
         return unknown_tag(room, &words[..], &reals[..]);
     }
     put_id(
-        insert_region(room, words, reals, value[0], value[1] != 0),
+        insert_region(
+            room,
+            words,
+            reals,
+            value[AT_REGION_BODY],
+            value[AT_REGION_SOLID] != 0,
+        ),
         id,
     )
 }
@@ -74,12 +94,12 @@ pub fn shell(
     value: &[u32; 1],
     id: &mut [u32; 1],
 ) -> u32
-    ensures answer { λ r. ⌜ r ≡ lent insertNumber room words reals true 2 ⌝ }
-    ensures slots { λ r. ⌜ now (id .exit) ≡ unlessRefused r (word (was words) 2 ∷ []) (was id) ⌝ }
-    ensures tables { λ _. ⌜ now (words .exit) ≡ lent insertWords room words reals true 2 (shellGiven (was value)) ⌝ }
-    ensures floats { λ _. ⌜ now (reals .exit) ≡ lent insertReals room words reals true 2 [] ⌝ }
+    ensures answer { λ r. ⌜ r ≡ lent insertNumber room words reals true SHELLS ⌝ }
+    ensures slots { λ r. ⌜ now (id .exit) ≡ unlessRefused r (word (was words) SHELLS ∷ []) (was id) ⌝ }
+    ensures tables { λ _. ⌜ now (words .exit) ≡ lent insertWords room words reals true SHELLS (shellGiven (was value)) ⌝ }
+    ensures floats { λ _. ⌜ now (reals .exit) ≡ lent insertReals room words reals true SHELLS [] ⌝ }
 {
-    put_id(insert_shell(room, words, reals, value[0]), id)
+    put_id(insert_shell(room, words, reals, value[AT_SHELL_REGION]), id)
 }
 
 pub fn face(
@@ -89,18 +109,18 @@ pub fn face(
     value: &[u32; 7],
     id: &mut [u32; 1],
 ) -> u32
-    ensures answer { λ r. ⌜ r ≡ lent insertNumber room words reals (faceKnown (was value)) 3 ⌝ }
-    ensures slots { λ r. ⌜ now (id .exit) ≡ unlessRefused r (word (was words) 3 ∷ []) (was id) ⌝ }
-    ensures tables { λ _. ⌜ now (words .exit) ≡ lent insertWords room words reals (faceKnown (was value)) 3 (faceGiven (was value)) ⌝ }
-    ensures floats { λ _. ⌜ now (reals .exit) ≡ lent insertReals room words reals (faceKnown (was value)) 3 [] ⌝ }
+    ensures answer { λ r. ⌜ r ≡ lent insertNumber room words reals (faceKnown (was value)) FACES ⌝ }
+    ensures slots { λ r. ⌜ now (id .exit) ≡ unlessRefused r (word (was words) FACES ∷ []) (was id) ⌝ }
+    ensures tables { λ _. ⌜ now (words .exit) ≡ lent insertWords room words reals (faceKnown (was value)) FACES (faceGiven (was value)) ⌝ }
+    ensures floats { λ _. ⌜ now (reals .exit) ≡ lent insertReals room words reals (faceKnown (was value)) FACES [] ⌝ }
 {
     if !face_known(value) {
         return unknown_tag(room, &words[..], &reals[..]);
     }
-    let front = ref_at(value, 0);
-    let back = ref_at(value, 2);
-    let surface = ref_at(value, 4);
-    let sense = sense_of(value[6]);
+    let front = ref_at(value, AT_FACE_FRONT);
+    let back = ref_at(value, AT_FACE_BACK);
+    let surface = ref_at(value, AT_FACE_SURFACE);
+    let sense = sense_of(value[AT_FACE_SENSE]);
     put_id(
         insert_face(room, words, reals, front, back, surface, sense),
         id,
@@ -114,12 +134,12 @@ pub fn loop_(
     value: &[u32; 1],
     id: &mut [u32; 1],
 ) -> u32
-    ensures answer { λ r. ⌜ r ≡ lent insertNumber room words reals true 4 ⌝ }
-    ensures slots { λ r. ⌜ now (id .exit) ≡ unlessRefused r (word (was words) 4 ∷ []) (was id) ⌝ }
-    ensures tables { λ _. ⌜ now (words .exit) ≡ lent insertWords room words reals true 4 (loopGiven (was value)) ⌝ }
-    ensures floats { λ _. ⌜ now (reals .exit) ≡ lent insertReals room words reals true 4 [] ⌝ }
+    ensures answer { λ r. ⌜ r ≡ lent insertNumber room words reals true LOOPS ⌝ }
+    ensures slots { λ r. ⌜ now (id .exit) ≡ unlessRefused r (word (was words) LOOPS ∷ []) (was id) ⌝ }
+    ensures tables { λ _. ⌜ now (words .exit) ≡ lent insertWords room words reals true LOOPS (loopGiven (was value)) ⌝ }
+    ensures floats { λ _. ⌜ now (reals .exit) ≡ lent insertReals room words reals true LOOPS [] ⌝ }
 {
-    put_id(insert_loop(room, words, reals, value[0]), id)
+    put_id(insert_loop(room, words, reals, value[AT_LOOP_FACE]), id)
 }
 
 pub fn fin(
@@ -129,17 +149,25 @@ pub fn fin(
     value: &[u32; 4],
     id: &mut [u32; 1],
 ) -> u32
-    ensures answer { λ r. ⌜ r ≡ lent insertNumber room words reals (finKnown (was value)) 5 ⌝ }
-    ensures slots { λ r. ⌜ now (id .exit) ≡ unlessRefused r (word (was words) 5 ∷ []) (was id) ⌝ }
-    ensures tables { λ _. ⌜ now (words .exit) ≡ lent insertWords room words reals (finKnown (was value)) 5 (finGiven (was value)) ⌝ }
-    ensures floats { λ _. ⌜ now (reals .exit) ≡ lent insertReals room words reals (finKnown (was value)) 5 [] ⌝ }
+    ensures answer { λ r. ⌜ r ≡ lent insertNumber room words reals (finKnown (was value)) FINS ⌝ }
+    ensures slots { λ r. ⌜ now (id .exit) ≡ unlessRefused r (word (was words) FINS ∷ []) (was id) ⌝ }
+    ensures tables { λ _. ⌜ now (words .exit) ≡ lent insertWords room words reals (finKnown (was value)) FINS (finGiven (was value)) ⌝ }
+    ensures floats { λ _. ⌜ now (reals .exit) ≡ lent insertReals room words reals (finKnown (was value)) FINS [] ⌝ }
 {
     if !fin_known(value) {
         return unknown_tag(room, &words[..], &reals[..]);
     }
-    let sense = sense_of(value[2]);
+    let sense = sense_of(value[AT_FIN_SENSE]);
     put_id(
-        insert_fin(room, words, reals, value[0], value[1], sense, value[3] != 0),
+        insert_fin(
+            room,
+            words,
+            reals,
+            value[AT_FIN_LOOP],
+            value[AT_FIN_EDGE],
+            sense,
+            value[AT_FIN_PCURVE] != 0,
+        ),
         id,
     )
 }
@@ -152,10 +180,10 @@ pub fn curve(
     floats: &[f64; 6],
     id: &mut [u32; 1],
 ) -> u32
-    ensures answer { λ r. ⌜ r ≡ lent insertNumber room words reals (carrierKnown (was value)) 8 ⌝ }
-    ensures slots { λ r. ⌜ now (id .exit) ≡ unlessRefused r (word (was words) 8 ∷ []) (was id) ⌝ }
-    ensures tables { λ _. ⌜ now (words .exit) ≡ lent insertWords room words reals (carrierKnown (was value)) 8 (carrierGiven (was value) (was floats)) ⌝ }
-    ensures floats { λ _. ⌜ now (reals .exit) ≡ lent insertReals room words reals (carrierKnown (was value)) 8 (carrierOwn (was value) (was floats)) ⌝ }
+    ensures answer { λ r. ⌜ r ≡ lent insertNumber room words reals (carrierKnown (was value)) CURVES ⌝ }
+    ensures slots { λ r. ⌜ now (id .exit) ≡ unlessRefused r (word (was words) CURVES ∷ []) (was id) ⌝ }
+    ensures tables { λ _. ⌜ now (words .exit) ≡ lent insertWords room words reals (carrierKnown (was value)) CURVES (carrierGiven (was value) (was floats)) ⌝ }
+    ensures floats { λ _. ⌜ now (reals .exit) ≡ lent insertReals room words reals (carrierKnown (was value)) CURVES (carrierOwn (was value) (was floats)) ⌝ }
 {
     if !carrier_known(value) {
         return unknown_tag(room, &words[..], &reals[..]);
@@ -172,10 +200,10 @@ pub fn surface(
     floats: &[f64; 6],
     id: &mut [u32; 1],
 ) -> u32
-    ensures answer { λ r. ⌜ r ≡ lent insertNumber room words reals (carrierKnown (was value)) 9 ⌝ }
-    ensures slots { λ r. ⌜ now (id .exit) ≡ unlessRefused r (word (was words) 9 ∷ []) (was id) ⌝ }
-    ensures tables { λ _. ⌜ now (words .exit) ≡ lent insertWords room words reals (carrierKnown (was value)) 9 (carrierGiven (was value) (was floats)) ⌝ }
-    ensures floats { λ _. ⌜ now (reals .exit) ≡ lent insertReals room words reals (carrierKnown (was value)) 9 (carrierOwn (was value) (was floats)) ⌝ }
+    ensures answer { λ r. ⌜ r ≡ lent insertNumber room words reals (carrierKnown (was value)) SURFACES ⌝ }
+    ensures slots { λ r. ⌜ now (id .exit) ≡ unlessRefused r (word (was words) SURFACES ∷ []) (was id) ⌝ }
+    ensures tables { λ _. ⌜ now (words .exit) ≡ lent insertWords room words reals (carrierKnown (was value)) SURFACES (carrierGiven (was value) (was floats)) ⌝ }
+    ensures floats { λ _. ⌜ now (reals .exit) ≡ lent insertReals room words reals (carrierKnown (was value)) SURFACES (carrierOwn (was value) (was floats)) ⌝ }
 {
     if !carrier_known(value) {
         return unknown_tag(room, &words[..], &reals[..]);

@@ -1,5 +1,12 @@
 // Whether a tolerance, a precision, and a body, region or shell by its own words, is one that refusal 9 lets through. `specs/Readable.antt` of
 // `model` has the tests.
+use model::names::AT_BODY_KIND;
+use model::names::AT_BODY_REGIONS;
+use model::names::AT_REGION_SHELLS;
+use model::names::AT_REGION_SOLID;
+use model::names::AT_SHELL_ACORNS;
+use model::names::AT_SHELL_FACES;
+use model::names::AT_SHELL_WIRES;
 use vectors::vector::is_finite;
 ghost use mathlib.Core.Path.{_≡_};
 ghost use lib.ListN.{length};
@@ -29,19 +36,19 @@ pub fn body_ok(w: &[u32]) -> bool
     requires { ⌜ length (now w) ≡ 18 ⌝ }
     ensures { λ r. ⌜ r ≡ bodyOk (now (w .entry)) ⌝ }
 {
-    (w[0] <= 4) & (w[1] <= 16)
+    (w[AT_BODY_KIND] <= 4) & (w[AT_BODY_REGIONS] <= 16)
 }
 
 pub fn region_ok(w: &[u32]) -> bool
     requires { ⌜ length (now w) ≡ 19 ⌝ }
     ensures { λ r. ⌜ r ≡ regionOk (now (w .entry)) ⌝ }
 {
-    (w[1] <= 1) & (w[2] <= 16)
+    (w[AT_REGION_SOLID] <= 1) & (w[AT_REGION_SHELLS] <= 16)
 }
 
 pub fn shell_ok(w: &[u32]) -> bool
     requires { ⌜ length (now w) ≡ 836 ⌝ }
     ensures { λ r. ⌜ r ≡ shellOk (now (w .entry)) ⌝ }
 {
-    (w[1] <= 512) & (w[514] <= 256) & (w[771] <= 64)
+    (w[AT_SHELL_FACES] <= 512) & (w[AT_SHELL_WIRES] <= 256) & (w[AT_SHELL_ACORNS] <= 64)
 }

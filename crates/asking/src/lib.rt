@@ -1,5 +1,6 @@
 // What `check_body` tests before it looks at the body, and how many of the faults it keeps.
 use legible::readable;
+use model::names::BODIES;
 ghost use mathlib.Core.Path.{_≡_};
 ghost use mathlib.Core.Bool.{cond};
 ghost use lib.Dec.{ltb};
@@ -28,7 +29,7 @@ pub fn refusal(
     if 255 < samples {
         return 1;
     }
-    if words[0] as usize <= body {
+    if words[BODIES] as usize <= body {
         return 2;
     }
     0

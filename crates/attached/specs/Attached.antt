@@ -5,17 +5,18 @@ use lib.Dec.{eqb, ltb}
 use Rattle.geometry.specs.Refuse.{_unless_, _then_}
 use Rattle.meaning.specs.Lists.{member}
 use Rattle.meaning.specs.Refuse.{_if_}
+use Rattle.model.specs.Names.{LOOPS, FINS, AT-FIN-LOOP, AT-FIN-EDGE, AT-FIN-PCURVE}
 use Rattle.model.specs.Layout.{word, wordsOf}
 use Rattle.model.specs.Decode.{flagAt}
 
 module _ (room w : List ℕ) where
   -- "missing 2, pcurve mark 7"
   unfoldable pub pcurveTest : ℕ → ℕ
-  pcurveTest i = 2 unless ltb i (word w 5) then 7 if flagAt (wordsOf room w 5 i) 3
+  pcurveTest i = 2 unless ltb i (word w FINS) then 7 if flagAt (wordsOf room w FINS i) AT-FIN-PCURVE
 
   -- "repeated 1; points to another edge 1; loop missing 2"
   unfoldable pub useTest : ℕ → List ℕ → ℕ → ℕ
   useTest e seen i =
       1 if member i seen
-      then 1 unless eqb (word (wordsOf room w 5 i) 1) e
-      then 2 unless ltb (word (wordsOf room w 5 i) 0) (word w 4)
+      then 1 unless eqb (word (wordsOf room w FINS i) AT-FIN-EDGE) e
+      then 2 unless ltb (word (wordsOf room w FINS i) AT-FIN-LOOP) (word w LOOPS)

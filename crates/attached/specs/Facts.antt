@@ -2,8 +2,9 @@
 use Prim.Native.Nat.{ℕ, _<_}
 use mathlib.Core.List.{List}
 use lib.ListN.{length, getD}
+use Rattle.model.specs.Names.{FINS}
 use Rattle.model.specs.Layout.{word}
 
 -- the listed fins exist
 pub record Present (w l : List ℕ) : Type 0 where
-  pub there : (k : ℕ) → k < length l → getD l k 0 < word w 5
+  pub there : (k : ℕ) → k < length l → getD l k 0 < word w FINS

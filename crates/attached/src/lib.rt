@@ -1,5 +1,11 @@
 // The fins of an edge by their own words: test 3 of euler.rs's `split_line_edge`, and test 11 as far as the loop. A fin's words are owner, edge, sense, pcurve mark.
 use model::layout::words_of;
+use model::names::AT_FIN_EDGE;
+use model::names::AT_FIN_LOOP;
+use model::names::AT_FIN_PCURVE;
+use model::names::AT_LOOP_FACE;
+use model::names::FINS;
+use model::names::LOOPS;
 use segments::refusals::then;
 use segments::refusals::unless;
 ghost use mathlib.Core.Path.{_≡_};
@@ -8,6 +14,7 @@ ghost use mathlib.Core.Bool.{cond};
 ghost use lib.ListN.{length, take, getD};
 ghost use Rattle.meaning.specs.Lists.{member};
 ghost use Rattle.meaning.specs.Refuse.{firstOf};
+ghost use Rattle.model.specs.Names.{LOOPS, FINS, AT-LOOP-FACE, AT-FIN-LOOP};
 ghost use Rattle.model.specs.Layout.{word, wordsOf};
 ghost use Rattle.model.specs.Fit.{Lists};
 ghost use Rattle.attached.specs.Attached.{pcurveTest, useTest};
@@ -18,11 +25,11 @@ fn pcurve_refusal(room: &[usize; 10], words: &[u32], fin: usize) -> u32
     requires { ⌜ Lists (now room) (now words) ⌝ }
     ensures { λ r. ⌜ r ≡ pcurveTest (now (room .entry)) (now (words .entry)) fin ⌝ }
 {
-    if words[5] as usize <= fin {
+    if words[FINS] as usize <= fin {
         return 2;
     }
-    let w = words_of(room, words, 5, fin);
-    unless(7, w[3] == 0)
+    let w = words_of(room, words, FINS, fin);
+    unless(7, w[AT_FIN_PCURVE] == 0)
 }
 
 // Test 3.
@@ -60,31 +67,34 @@ pub fn use_refusal(room: &[usize; 10], words: &[u32], fins: &[u32], k: usize, ed
     ensures { λ r. ⌜ r ≡ useTest (now (room .entry)) (now (words .entry)) edge (take k (now (fins .entry))) (getD (now (fins .entry)) k 0) ⌝ }
 {
     let fin = fins[k];
-    let w = words_of(room, words, 5, fin as usize);
+    let w = words_of(room, words, FINS, fin as usize);
     let once = unless(1, !occurs(&fins[..k], fin));
     then(
         once,
-        then(unless(1, w[1] as usize == edge), unless(2, w[0] < words[4])),
+        then(
+            unless(1, w[AT_FIN_EDGE] as usize == edge),
+            unless(2, w[AT_FIN_LOOP] < words[LOOPS]),
+        ),
     )
 }
 
 // The loop of a fin, and the face of a loop.
 pub fn owner_of(room: &[usize; 10], words: &[u32], fin: usize) -> usize
     requires { ⌜ Lists (now room) (now words) ⌝ }
-    requires { ⌜ fin < word (now words) 5 ⌝ }
-    ensures { λ r. ⌜ r ≡ word (wordsOf (now (room .entry)) (now (words .entry)) 5 fin) 0 ⌝ }
+    requires { ⌜ fin < word (now words) FINS ⌝ }
+    ensures { λ r. ⌜ r ≡ word (wordsOf (now (room .entry)) (now (words .entry)) FINS fin) AT-FIN-LOOP ⌝ }
 {
-    let w = words_of(room, words, 5, fin);
-    w[0] as usize
+    let w = words_of(room, words, FINS, fin);
+    w[AT_FIN_LOOP] as usize
 }
 
 pub fn face_of(room: &[usize; 10], words: &[u32], owner: usize) -> usize
     requires { ⌜ Lists (now room) (now words) ⌝ }
-    requires { ⌜ owner < word (now words) 4 ⌝ }
-    ensures { λ r. ⌜ r ≡ word (wordsOf (now (room .entry)) (now (words .entry)) 4 owner) 0 ⌝ }
+    requires { ⌜ owner < word (now words) LOOPS ⌝ }
+    ensures { λ r. ⌜ r ≡ word (wordsOf (now (room .entry)) (now (words .entry)) LOOPS owner) AT-LOOP-FACE ⌝ }
 {
-    let w = words_of(room, words, 4, owner);
-    w[0] as usize
+    let w = words_of(room, words, LOOPS, owner);
+    w[AT_LOOP_FACE] as usize
 }
 
 pub fn one_if(met: bool) -> usize

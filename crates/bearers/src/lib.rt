@@ -9,8 +9,16 @@ use forms::tags::own_known;
 use forms::tags::point_of;
 use inserts::insert_edge;
 use inserts::insert_vertex;
+use model::names::AT_EDGE_CURVE;
+use model::names::AT_EDGE_END;
+use model::names::AT_EDGE_START;
+use model::names::AT_EDGE_TOLERANCE;
+use model::names::AT_VERTEX_TOLERANCE;
+use model::names::FLOAT_EDGE_TOLERANCE;
+use model::names::FLOAT_VERTEX_TOLERANCE;
 ghost use mathlib.Core.Path.{_≡_};
 ghost use mathlib.Core.List.{[], _∷_};
+ghost use Rattle.model.specs.Names.{EDGES, VERTICES};
 ghost use Rattle.model.specs.Layout.{word};
 ghost use Rattle.frame.specs.Put.{unlessRefused};
 ghost use Rattle.edits.specs.Answers.{insertNumber, insertWords, insertReals};
@@ -25,18 +33,18 @@ pub fn edge(
     floats: &[f64; 1],
     id: &mut [u32; 1],
 ) -> u32
-    ensures answer { λ r. ⌜ r ≡ lent insertNumber room words reals (edgeGood (was value) (was floats)) 6 ⌝ }
-    ensures slots { λ r. ⌜ now (id .exit) ≡ unlessRefused r (word (was words) 6 ∷ []) (was id) ⌝ }
-    ensures tables { λ _. ⌜ now (words .exit) ≡ lent insertWords room words reals (edgeGood (was value) (was floats)) 6 (edgeGiven (was value) (was floats)) ⌝ }
-    ensures floats { λ _. ⌜ now (reals .exit) ≡ lent insertReals room words reals (edgeGood (was value) (was floats)) 6 (edgeOwn (was value) (was floats)) ⌝ }
+    ensures answer { λ r. ⌜ r ≡ lent insertNumber room words reals (edgeGood (was value) (was floats)) EDGES ⌝ }
+    ensures slots { λ r. ⌜ now (id .exit) ≡ unlessRefused r (word (was words) EDGES ∷ []) (was id) ⌝ }
+    ensures tables { λ _. ⌜ now (words .exit) ≡ lent insertWords room words reals (edgeGood (was value) (was floats)) EDGES (edgeGiven (was value) (was floats)) ⌝ }
+    ensures floats { λ _. ⌜ now (reals .exit) ≡ lent insertReals room words reals (edgeGood (was value) (was floats)) EDGES (edgeOwn (was value) (was floats)) ⌝ }
 {
     if !face_known(value) {
         return unknown_tag(room, &words[..], &reals[..]);
     }
-    let start = ref_at(value, 0);
-    let end = ref_at(value, 2);
-    let curve = ref_at(value, 4);
-    let tolerance = tolerance_of(value[6], floats[0]);
+    let start = ref_at(value, AT_EDGE_START);
+    let end = ref_at(value, AT_EDGE_END);
+    let curve = ref_at(value, AT_EDGE_CURVE);
+    let tolerance = tolerance_of(value[AT_EDGE_TOLERANCE], floats[FLOAT_EDGE_TOLERANCE]);
     put_id(
         insert_edge(room, words, reals, start, end, curve, tolerance),
         id,
@@ -51,15 +59,15 @@ pub fn vertex(
     floats: &[f64; 4],
     id: &mut [u32; 1],
 ) -> u32
-    ensures answer { λ r. ⌜ r ≡ lent insertNumber room words reals (vertexGood (was value) (was floats)) 7 ⌝ }
-    ensures slots { λ r. ⌜ now (id .exit) ≡ unlessRefused r (word (was words) 7 ∷ []) (was id) ⌝ }
-    ensures tables { λ _. ⌜ now (words .exit) ≡ lent insertWords room words reals (vertexGood (was value) (was floats)) 7 (vertexGiven (was value) (was floats)) ⌝ }
-    ensures floats { λ _. ⌜ now (reals .exit) ≡ lent insertReals room words reals (vertexGood (was value) (was floats)) 7 (vertexOwn (was value) (was floats)) ⌝ }
+    ensures answer { λ r. ⌜ r ≡ lent insertNumber room words reals (vertexGood (was value) (was floats)) VERTICES ⌝ }
+    ensures slots { λ r. ⌜ now (id .exit) ≡ unlessRefused r (word (was words) VERTICES ∷ []) (was id) ⌝ }
+    ensures tables { λ _. ⌜ now (words .exit) ≡ lent insertWords room words reals (vertexGood (was value) (was floats)) VERTICES (vertexGiven (was value) (was floats)) ⌝ }
+    ensures floats { λ _. ⌜ now (reals .exit) ≡ lent insertReals room words reals (vertexGood (was value) (was floats)) VERTICES (vertexOwn (was value) (was floats)) ⌝ }
 {
     if !own_known(value) {
         return unknown_tag(room, &words[..], &reals[..]);
     }
     let point = point_of(floats);
-    let tolerance = tolerance_of(value[0], floats[3]);
+    let tolerance = tolerance_of(value[AT_VERTEX_TOLERANCE], floats[FLOAT_VERTEX_TOLERANCE]);
     put_id(insert_vertex(room, words, reals, point, tolerance), id)
 }

@@ -1,6 +1,7 @@
 // Making an empty model (model.rs, `Model::new`). `specs/Answers.antt` says what it answers and leaves.
 use allowed::precision_ok;
 use legible::lent;
+use model::names::PRECISION;
 use writes::write::clear;
 ghost use mathlib.Core.Path.{_≡_};
 ghost use Rattle.blank.specs.Answers.{makeNumber, makeWords, makeReals};
@@ -29,6 +30,6 @@ pub fn make(room: &[usize; 10], words: &mut [u32], reals: &mut [f64], precision:
         return n;
     }
     clear(&mut words[..10]);
-    reals[0] = precision;
+    reals[PRECISION] = precision;
     0
 }

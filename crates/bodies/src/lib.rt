@@ -4,6 +4,7 @@ use entity::records::BodyKind;
 use fetched::body_at;
 use listing::list;
 use manifold::manifold_edges;
+use model::names::BODY_REGIONS;
 use reasons::Tally;
 use shells::all_regions;
 use shells::region_layout;
@@ -12,6 +13,7 @@ ghost use mathlib.Core.Bool.{true};
 ghost use Prim.Native.Nat.{_≤_, _<_};
 ghost use lib.ListN.{length, replicate};
 ghost use Rattle.meaning.specs.Faults.{manifoldEdges, findings};
+ghost use Rattle.model.specs.Names.{BODIES};
 ghost use Rattle.model.specs.Layout.{word};
 ghost use Rattle.model.specs.Decode.{decode};
 ghost use Rattle.model.specs.Readable.{readable};
@@ -43,7 +45,7 @@ fn solid_edges(
     edges: &mut [u8],
 ) -> Tally
     requires { ⌜ readable (now room) (now words) (now reals) ≡ true ⌝ }
-    requires { ⌜ body < word (now words) 0 ⌝ }
+    requires { ⌜ body < word (now words) BODIES ⌝ }
     requires { ⌜ now faces ≡ replicate (length (now faces)) 0 ⌝ }
     requires { ⌜ now edges ≡ replicate (length (now edges)) 0 ⌝ }
     requires { ⌜ Enough t (manifoldEdges (decode (now room) (now words) (now reals)) body) ⌝ }
@@ -76,7 +78,7 @@ pub fn body_findings(
     edges: &mut [u8],
 ) -> Tally
     requires { ⌜ readable (now room) (now words) (now reals) ≡ true ⌝ }
-    requires { ⌜ (n ≤ 255) × (body < word (now words) 0) ⌝ }
+    requires { ⌜ (n ≤ 255) × (body < word (now words) BODIES) ⌝ }
     requires { ⌜ now faces ≡ replicate (length (now faces)) 0 ⌝ }
     requires { ⌜ now edges ≡ replicate (length (now edges)) 0 ⌝ }
     ensures { λ r. ⌜ Noted (findings (decode (now (room .entry)) (now (words .entry)) (now (reals .entry))) (options geometry n) body) (now (nums .entry)) nothingYet (now (nums .exit)) r ⌝ }
@@ -88,7 +90,7 @@ pub fn body_findings(
         unchecked: 0,
     };
     let b = body as u32;
-    let regions = list(room, words, 0, body);
+    let regions = list(room, words, BODY_REGIONS, body);
     let laid = region_layout(room, words, reals, nums, t, b, regions);
     let told = all_regions(room, words, reals, nums, laid, geometry, n, b, regions);
     solid_edges(room, words, reals, nums, told, body, faces, edges)

@@ -1,6 +1,9 @@
 // `body_bounding_box` of inquire.rs. specs/Answers.antt of crate `boxes` says what it answers.
 use boxes::path_box;
 use marks::clear;
+use model::names::EDGES;
+use model::names::FACES;
+use model::names::VERTICES;
 use paths::vertex_path;
 use polyhedral::polyhedral_refusal;
 use replies::BoxFound;
@@ -53,7 +56,9 @@ pub fn body_bounding_box(
     ensures edges { λ _. ⌜ now (edges .exit) ≡ replicate (length (now (edges .entry))) 0 ⌝ }
     ensures vertices { λ _. ⌜ now (vertices .exit) ≡ replicate (length (now (vertices .entry))) 0 ⌝ }
 {
-    let enough = (room[3] <= faces.len()) & (room[6] <= edges.len()) & (room[7] <= vertices.len());
+    let enough = (room[FACES] <= faces.len())
+        & (room[EDGES] <= edges.len())
+        & (room[VERTICES] <= vertices.len());
     clear(faces);
     clear(edges);
     clear(vertices);

@@ -7,6 +7,7 @@ use Rattle.geometry.specs.Refuse.{_unless_, _then_, answer}
 use Rattle.meaning.specs.Model.{pointOf}
 use Rattle.meaning.specs.Walks.{vertexWalk}
 use Rattle.meaning.specs.Inquire.{boxOf, boxRefusal}
+use Rattle.model.specs.Names.{FACES, EDGES, VERTICES}
 use Rattle.model.specs.Decode.{decode}
 use Rattle.model.specs.Readable.{readable}
 use Rattle.walks.specs.Calls.{reach}
@@ -18,7 +19,7 @@ module _ (room w : List ℕ) (x : List Float) (b : ℕ) (faceMarks edgeMarks ver
   unfoldable pub boxNumber : ℕ
   boxNumber =
       9 unless readable room w x
-      then 8 unless reach room 3 faceMarks && reach room 6 edgeMarks && reach room 7 vertexMarks
+      then 8 unless reach room FACES faceMarks && reach room EDGES edgeMarks && reach room VERTICES vertexMarks
       then boxRefusal (decode room w x) b
 
   unfoldable pub boxAnswer : BoxFound

@@ -3,6 +3,7 @@
 use fetched::vertex_at;
 use figures::bbox::Extent;
 use marks::clear;
+use model::names::VERTICES;
 use replies::BoxFound;
 use vectors::vector::Point3;
 use visits::all_listed;
@@ -15,6 +16,7 @@ ghost use lib.Dec.{ltb};
 ghost use lib.ListN.{length, replicate};
 ghost use Rattle.meaning.specs.Lists.{all, firsts};
 ghost use Rattle.meaning.specs.Model.{pointOf};
+ghost use Rattle.model.specs.Names.{VERTICES};
 ghost use Rattle.model.specs.Layout.{word};
 ghost use Rattle.model.specs.Decode.{decode};
 ghost use Rattle.model.specs.Fit.{Fit};
@@ -26,7 +28,7 @@ ghost use Rattle.boxes.specs.Walked.{extentBox, walkBox};
 // The point of a vertex.
 fn point_at(room: &[usize; 10], words: &[u32], reals: &[f64], i: usize) -> Point3
     requires { ⌜ Fit (now room) (now words) (now reals) ⌝ }
-    requires { ⌜ i < word (now words) 7 ⌝ }
+    requires { ⌜ i < word (now words) VERTICES ⌝ }
     ensures { λ r. ⌜ r ≡ pointOf (decode (now (room .entry)) (now (words .entry)) (now (reals .entry))) i ⌝ }
 {
     vertex_at(room, words, reals, i).point
@@ -35,7 +37,7 @@ fn point_at(room: &[usize; 10], words: &[u32], reals: &[f64], i: usize) -> Point
 // What is known of the vertices' points, met in order.
 fn extent(room: &[usize; 10], words: &[u32], reals: &[f64], ids: &[u32]) -> Extent
     requires { ⌜ Fit (now room) (now words) (now reals) ⌝ }
-    requires { ⌜ all (λ v. ltb v (word (now words) 7)) (now ids) ≡ true ⌝ }
+    requires { ⌜ all (λ v. ltb v (word (now words) VERTICES)) (now ids) ≡ true ⌝ }
     ensures { λ r. ⌜ r ≡ extentOf (map (pointOf (decode (now (room .entry)) (now (words .entry)) (now (reals .entry)))) (now (ids .entry))) ⌝ }
 {
     let mut e = Extent::none();
@@ -77,7 +79,7 @@ pub fn path_box(
     ensures { λ r. ⌜ r ≡ walkBox (decode (now (room .entry)) (now (words .entry)) (now (reals .entry))) (firsts (idsOf (now (room .entry)) (now (words .entry)) (now (path .entry)))) ⌝ }
     ensures { λ _. ⌜ now (marks .exit) ≡ replicate (length (now (marks .entry))) 0 ⌝ }
 {
-    if !all_listed(room, words, path, words[7]) {
+    if !all_listed(room, words, path, words[VERTICES]) {
         return BoxFound::Refused(2);
     }
     let mut list = [0u32; 2048];

@@ -10,6 +10,18 @@ use forms::tags::face_known;
 use forms::tags::own_known;
 use forms::tags::point_of;
 use forms::tags::region_known;
+use model::names::AT_BODY_KIND;
+use model::names::AT_EDGE_CURVE;
+use model::names::AT_EDGE_END;
+use model::names::AT_EDGE_START;
+use model::names::AT_EDGE_TOLERANCE;
+use model::names::AT_LOOP_FACE;
+use model::names::AT_REGION_BODY;
+use model::names::AT_REGION_SOLID;
+use model::names::AT_SHELL_REGION;
+use model::names::AT_VERTEX_TOLERANCE;
+use model::names::FLOAT_EDGE_TOLERANCE;
+use model::names::FLOAT_VERTEX_TOLERANCE;
 use sets::set_body;
 use sets::set_curve;
 use sets::set_edge;
@@ -24,6 +36,7 @@ ghost use mathlib.Core.List.{[]};
 ghost use Rattle.edits.specs.Answers.{editNumber, editWords, editReals};
 ghost use Rattle.lent.specs.Lent.{was, lent};
 ghost use Rattle.crossings.specs.Given.{bodyKnown, regionKnown, carrierKnown, edgeGood, vertexGood, bodyGiven, regionGiven, shellGiven, loopGiven, edgeGiven, vertexGiven, carrierGiven, edgeOwn, vertexOwn, carrierOwn};
+ghost use Rattle.model.specs.Names.{BODIES, REGIONS, SHELLS, LOOPS, EDGES, VERTICES, CURVES, SURFACES};
 
 pub fn body(
     room: &[usize; 10],
@@ -32,14 +45,14 @@ pub fn body(
     id: usize,
     value: &[u32; 1],
 ) -> u32
-    ensures answer { λ r. ⌜ r ≡ lent editNumber room words reals (bodyKnown (was value)) 0 id ⌝ }
-    ensures tables { λ _. ⌜ now (words .exit) ≡ lent editWords room words reals (bodyKnown (was value)) 0 id 0 (bodyGiven (was value)) ⌝ }
-    ensures floats { λ _. ⌜ now (reals .exit) ≡ lent editReals room words reals (bodyKnown (was value)) 0 id [] ⌝ }
+    ensures answer { λ r. ⌜ r ≡ lent editNumber room words reals (bodyKnown (was value)) BODIES id ⌝ }
+    ensures tables { λ _. ⌜ now (words .exit) ≡ lent editWords room words reals (bodyKnown (was value)) BODIES id 0 (bodyGiven (was value)) ⌝ }
+    ensures floats { λ _. ⌜ now (reals .exit) ≡ lent editReals room words reals (bodyKnown (was value)) BODIES id [] ⌝ }
 {
     if !body_known(value) {
         return unknown_tag(room, &words[..], &reals[..]);
     }
-    let kind = kind_of(value[0]);
+    let kind = kind_of(value[AT_BODY_KIND]);
     set_body(room, words, reals, id, kind)
 }
 
@@ -50,14 +63,21 @@ pub fn region(
     id: usize,
     value: &[u32; 2],
 ) -> u32
-    ensures answer { λ r. ⌜ r ≡ lent editNumber room words reals (regionKnown (was value)) 1 id ⌝ }
-    ensures tables { λ _. ⌜ now (words .exit) ≡ lent editWords room words reals (regionKnown (was value)) 1 id 0 (regionGiven (was value)) ⌝ }
-    ensures floats { λ _. ⌜ now (reals .exit) ≡ lent editReals room words reals (regionKnown (was value)) 1 id [] ⌝ }
+    ensures answer { λ r. ⌜ r ≡ lent editNumber room words reals (regionKnown (was value)) REGIONS id ⌝ }
+    ensures tables { λ _. ⌜ now (words .exit) ≡ lent editWords room words reals (regionKnown (was value)) REGIONS id 0 (regionGiven (was value)) ⌝ }
+    ensures floats { λ _. ⌜ now (reals .exit) ≡ lent editReals room words reals (regionKnown (was value)) REGIONS id [] ⌝ }
 {
     if !region_known(value) {
         return unknown_tag(room, &words[..], &reals[..]);
     }
-    set_region(room, words, reals, id, value[0], value[1] != 0)
+    set_region(
+        room,
+        words,
+        reals,
+        id,
+        value[AT_REGION_BODY],
+        value[AT_REGION_SOLID] != 0,
+    )
 }
 
 pub fn shell(
@@ -67,11 +87,11 @@ pub fn shell(
     id: usize,
     value: &[u32; 1],
 ) -> u32
-    ensures answer { λ r. ⌜ r ≡ lent editNumber room words reals true 2 id ⌝ }
-    ensures tables { λ _. ⌜ now (words .exit) ≡ lent editWords room words reals true 2 id 0 (shellGiven (was value)) ⌝ }
-    ensures floats { λ _. ⌜ now (reals .exit) ≡ lent editReals room words reals true 2 id [] ⌝ }
+    ensures answer { λ r. ⌜ r ≡ lent editNumber room words reals true SHELLS id ⌝ }
+    ensures tables { λ _. ⌜ now (words .exit) ≡ lent editWords room words reals true SHELLS id 0 (shellGiven (was value)) ⌝ }
+    ensures floats { λ _. ⌜ now (reals .exit) ≡ lent editReals room words reals true SHELLS id [] ⌝ }
 {
-    set_shell(room, words, reals, id, value[0])
+    set_shell(room, words, reals, id, value[AT_SHELL_REGION])
 }
 
 pub fn loop_(
@@ -81,11 +101,11 @@ pub fn loop_(
     id: usize,
     value: &[u32; 1],
 ) -> u32
-    ensures answer { λ r. ⌜ r ≡ lent editNumber room words reals true 4 id ⌝ }
-    ensures tables { λ _. ⌜ now (words .exit) ≡ lent editWords room words reals true 4 id 0 (loopGiven (was value)) ⌝ }
-    ensures floats { λ _. ⌜ now (reals .exit) ≡ lent editReals room words reals true 4 id [] ⌝ }
+    ensures answer { λ r. ⌜ r ≡ lent editNumber room words reals true LOOPS id ⌝ }
+    ensures tables { λ _. ⌜ now (words .exit) ≡ lent editWords room words reals true LOOPS id 0 (loopGiven (was value)) ⌝ }
+    ensures floats { λ _. ⌜ now (reals .exit) ≡ lent editReals room words reals true LOOPS id [] ⌝ }
 {
-    set_loop(room, words, reals, id, value[0])
+    set_loop(room, words, reals, id, value[AT_LOOP_FACE])
 }
 
 pub fn edge(
@@ -96,17 +116,17 @@ pub fn edge(
     value: &[u32; 7],
     floats: &[f64; 1],
 ) -> u32
-    ensures answer { λ r. ⌜ r ≡ lent editNumber room words reals (edgeGood (was value) (was floats)) 6 id ⌝ }
-    ensures tables { λ _. ⌜ now (words .exit) ≡ lent editWords room words reals (edgeGood (was value) (was floats)) 6 id 0 (edgeGiven (was value) (was floats)) ⌝ }
-    ensures floats { λ _. ⌜ now (reals .exit) ≡ lent editReals room words reals (edgeGood (was value) (was floats)) 6 id (edgeOwn (was value) (was floats)) ⌝ }
+    ensures answer { λ r. ⌜ r ≡ lent editNumber room words reals (edgeGood (was value) (was floats)) EDGES id ⌝ }
+    ensures tables { λ _. ⌜ now (words .exit) ≡ lent editWords room words reals (edgeGood (was value) (was floats)) EDGES id 0 (edgeGiven (was value) (was floats)) ⌝ }
+    ensures floats { λ _. ⌜ now (reals .exit) ≡ lent editReals room words reals (edgeGood (was value) (was floats)) EDGES id (edgeOwn (was value) (was floats)) ⌝ }
 {
     if !face_known(value) {
         return unknown_tag(room, &words[..], &reals[..]);
     }
-    let start = ref_at(value, 0);
-    let end = ref_at(value, 2);
-    let curve = ref_at(value, 4);
-    let tolerance = tolerance_of(value[6], floats[0]);
+    let start = ref_at(value, AT_EDGE_START);
+    let end = ref_at(value, AT_EDGE_END);
+    let curve = ref_at(value, AT_EDGE_CURVE);
+    let tolerance = tolerance_of(value[AT_EDGE_TOLERANCE], floats[FLOAT_EDGE_TOLERANCE]);
     set_edge(room, words, reals, id, start, end, curve, tolerance)
 }
 
@@ -118,15 +138,15 @@ pub fn vertex(
     value: &[u32; 1],
     floats: &[f64; 4],
 ) -> u32
-    ensures answer { λ r. ⌜ r ≡ lent editNumber room words reals (vertexGood (was value) (was floats)) 7 id ⌝ }
-    ensures tables { λ _. ⌜ now (words .exit) ≡ lent editWords room words reals (vertexGood (was value) (was floats)) 7 id 0 (vertexGiven (was value) (was floats)) ⌝ }
-    ensures floats { λ _. ⌜ now (reals .exit) ≡ lent editReals room words reals (vertexGood (was value) (was floats)) 7 id (vertexOwn (was value) (was floats)) ⌝ }
+    ensures answer { λ r. ⌜ r ≡ lent editNumber room words reals (vertexGood (was value) (was floats)) VERTICES id ⌝ }
+    ensures tables { λ _. ⌜ now (words .exit) ≡ lent editWords room words reals (vertexGood (was value) (was floats)) VERTICES id 0 (vertexGiven (was value) (was floats)) ⌝ }
+    ensures floats { λ _. ⌜ now (reals .exit) ≡ lent editReals room words reals (vertexGood (was value) (was floats)) VERTICES id (vertexOwn (was value) (was floats)) ⌝ }
 {
     if !own_known(value) {
         return unknown_tag(room, &words[..], &reals[..]);
     }
     let point = point_of(floats);
-    let tolerance = tolerance_of(value[0], floats[3]);
+    let tolerance = tolerance_of(value[AT_VERTEX_TOLERANCE], floats[FLOAT_VERTEX_TOLERANCE]);
     set_vertex(room, words, reals, id, point, tolerance)
 }
 
@@ -138,9 +158,9 @@ pub fn curve(
     value: &[u32; 1],
     floats: &[f64; 6],
 ) -> u32
-    ensures answer { λ r. ⌜ r ≡ lent editNumber room words reals (carrierKnown (was value)) 8 id ⌝ }
-    ensures tables { λ _. ⌜ now (words .exit) ≡ lent editWords room words reals (carrierKnown (was value)) 8 id 0 (carrierGiven (was value) (was floats)) ⌝ }
-    ensures floats { λ _. ⌜ now (reals .exit) ≡ lent editReals room words reals (carrierKnown (was value)) 8 id (carrierOwn (was value) (was floats)) ⌝ }
+    ensures answer { λ r. ⌜ r ≡ lent editNumber room words reals (carrierKnown (was value)) CURVES id ⌝ }
+    ensures tables { λ _. ⌜ now (words .exit) ≡ lent editWords room words reals (carrierKnown (was value)) CURVES id 0 (carrierGiven (was value) (was floats)) ⌝ }
+    ensures floats { λ _. ⌜ now (reals .exit) ≡ lent editReals room words reals (carrierKnown (was value)) CURVES id (carrierOwn (was value) (was floats)) ⌝ }
 {
     if !carrier_known(value) {
         return unknown_tag(room, &words[..], &reals[..]);
@@ -157,9 +177,9 @@ pub fn surface(
     value: &[u32; 1],
     floats: &[f64; 6],
 ) -> u32
-    ensures answer { λ r. ⌜ r ≡ lent editNumber room words reals (carrierKnown (was value)) 9 id ⌝ }
-    ensures tables { λ _. ⌜ now (words .exit) ≡ lent editWords room words reals (carrierKnown (was value)) 9 id 0 (carrierGiven (was value) (was floats)) ⌝ }
-    ensures floats { λ _. ⌜ now (reals .exit) ≡ lent editReals room words reals (carrierKnown (was value)) 9 id (carrierOwn (was value) (was floats)) ⌝ }
+    ensures answer { λ r. ⌜ r ≡ lent editNumber room words reals (carrierKnown (was value)) SURFACES id ⌝ }
+    ensures tables { λ _. ⌜ now (words .exit) ≡ lent editWords room words reals (carrierKnown (was value)) SURFACES id 0 (carrierGiven (was value) (was floats)) ⌝ }
+    ensures floats { λ _. ⌜ now (reals .exit) ≡ lent editReals room words reals (carrierKnown (was value)) SURFACES id (carrierOwn (was value) (was floats)) ⌝ }
 {
     if !carrier_known(value) {
         return unknown_tag(room, &words[..], &reals[..]);

@@ -8,6 +8,7 @@ use lib.Ieee.{Float}
 use Rattle.geometry.specs.Refuse.{_unless_, _then_, answer}
 use Rattle.meaning.specs.Faults as Faults
 use Rattle.meaning.specs.Faults.{CheckOptions, Report, reportOf, findings, checkRefusal, kept, counts, sawing, sawable}
+use Rattle.model.specs.Names.{FACES, EDGES}
 use Rattle.model.specs.Decode.{decode}
 use Rattle.model.specs.Readable.{readable}
 use Rattle.reasons.specs.Log.{faultsWords}
@@ -35,7 +36,7 @@ module _ (room w : List ℕ) (x : List Float) (b : ℕ) where
   unfoldable pub checkNumber : CheckOptions → List ℕ → List ℕ → ℕ
   checkNumber o faceMarks edgeMarks =
       9 unless readable room w x
-      then 8 unless reach room 3 faceMarks && reach room 6 edgeMarks
+      then 8 unless reach room FACES faceMarks && reach room EDGES edgeMarks
       then checkRefusal (decode room w x) o b
 
   -- `check_body`: the lent list has an entry for every four words

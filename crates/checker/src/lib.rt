@@ -4,6 +4,8 @@ use asking::kept_of;
 use asking::refusal;
 use bodies::body_findings;
 use marks::clear;
+use model::names::EDGES;
+use model::names::FACES;
 use replies::Checked;
 use replies::Counts;
 use replies::Sawable;
@@ -12,6 +14,7 @@ ghost use mathlib.Core.Bool.{true};
 ghost use Prim.Native.Nat.{_≤_, _<_, _/_};
 ghost use lib.ListN.{length, replicate};
 ghost use Rattle.meaning.specs.Faults.{counts, kept};
+ghost use Rattle.model.specs.Names.{BODIES};
 ghost use Rattle.model.specs.Layout.{word};
 ghost use Rattle.model.specs.Readable.{readable};
 ghost use Rattle.reasons.specs.Log.{faultsWords};
@@ -31,7 +34,7 @@ fn check(
     edges: &mut [u8],
 ) -> Counts
     requires { ⌜ readable (now room) (now words) (now reals) ≡ true ⌝ }
-    requires { ⌜ (n ≤ 255) × (body < word (now words) 0) ⌝ }
+    requires { ⌜ (n ≤ 255) × (body < word (now words) BODIES) ⌝ }
     requires { ⌜ now faces ≡ replicate (length (now faces)) 0 ⌝ }
     requires { ⌜ now edges ≡ replicate (length (now edges)) 0 ⌝ }
     ensures { λ r. ⌜ r ≡ seenCounts (counts (length (now (nums .entry)) / 4) (reportOn (now (room .entry)) (now (words .entry)) (now (reals .entry)) body (asked geometry n))) ⌝ }
@@ -76,7 +79,7 @@ pub fn check_body(
     ensures faces { λ _. ⌜ now (faces .exit) ≡ replicate (length (now (faces .entry))) 0 ⌝ }
     ensures edges { λ _. ⌜ now (edges .exit) ≡ replicate (length (now (edges .entry))) 0 ⌝ }
 {
-    let enough = (room[3] <= faces.len()) & (room[6] <= edges.len());
+    let enough = (room[FACES] <= faces.len()) & (room[EDGES] <= edges.len());
     clear(faces);
     clear(edges);
     let number = refusal(room, words, reals, enough, samples, body);

@@ -8,6 +8,7 @@ use lib.Ieee.{Float}
 use Rattle.geometry.specs.Refuse.{_unless_, _then_}
 use Rattle.geometry.specs.declared.tolerance.Tolerance.{Tolerance}
 use Rattle.meaning.specs.Edits.{toleranceOk}
+use Rattle.model.specs.Names.{AT-BODY-KIND, AT-REGION-BODY, AT-REGION-SOLID, AT-SHELL-REGION, AT-FACE-FRONT, AT-FACE-BACK, AT-FACE-SURFACE, AT-FACE-SENSE, AT-LOOP-FACE, AT-FIN-LOOP, AT-FIN-EDGE, AT-FIN-SENSE, AT-FIN-PCURVE, AT-EDGE-START, AT-EDGE-END, AT-EDGE-CURVE, AT-EDGE-TOLERANCE, AT-VERTEX-TOLERANCE, AT-CARRIER-TAG, FLOAT-EDGE-TOLERANCE, FLOAT-VERTEX-POINT, FLOAT-VERTEX-TOLERANCE}
 use Rattle.model.specs.Layout.{word, real}
 use Rattle.model.specs.Decode.{maybeAt, flagAt, senseOf, kindOf, toleranceOf, pointAt, carrierOf}
 use Rattle.model.specs.Readable.{readable}
@@ -24,29 +25,29 @@ tagNumber room w x = 9 unless readable room w x then 1
 -- ---- the tags of a value v are known; and an own tolerance, among the floats s, is one that a record may have
 
 abbrev pub bodyKnown : List ℕ → Bool
-bodyKnown v = leb (word v 0) 4
+bodyKnown v = leb (word v AT-BODY-KIND) 4
 
 abbrev pub regionKnown : List ℕ → Bool
-regionKnown v = leb (word v 1) 1
+regionKnown v = leb (word v AT-REGION-SOLID) 1
 
 abbrev pub faceKnown : List ℕ → Bool
-faceKnown v = leb (word v 0) 1 && leb (word v 2) 1 && leb (word v 4) 1 && leb (word v 6) 1
+faceKnown v = leb (word v AT-FACE-FRONT) 1 && leb (word v AT-FACE-BACK) 1 && leb (word v AT-FACE-SURFACE) 1 && leb (word v AT-FACE-SENSE) 1
 
 abbrev pub finKnown : List ℕ → Bool
-finKnown v = leb (word v 2) 1 && leb (word v 3) 1
+finKnown v = leb (word v AT-FIN-SENSE) 1 && leb (word v AT-FIN-PCURVE) 1
 
 abbrev pub ownKnown : List ℕ → Bool
-ownKnown v = leb (word v 0) 1
+ownKnown v = leb (word v AT-VERTEX-TOLERANCE) 1
 
 abbrev pub carrierKnown : List ℕ → Bool
-carrierKnown v = leb (word v 0) 2
+carrierKnown v = leb (word v AT-CARRIER-TAG) 2
 
 -- the tolerance of an edge, and of a vertex
 abbrev pub edgeTolerance : List ℕ → List Float → Tolerance
-edgeTolerance v s = toleranceOf (word v 6) (real s 0)
+edgeTolerance v s = toleranceOf (word v AT-EDGE-TOLERANCE) (real s FLOAT-EDGE-TOLERANCE)
 
 abbrev pub vertexTolerance : List ℕ → List Float → Tolerance
-vertexTolerance v s = toleranceOf (word v 0) (real s 3)
+vertexTolerance v s = toleranceOf (word v AT-VERTEX-TOLERANCE) (real s FLOAT-VERTEX-TOLERANCE)
 
 unfoldable pub edgeGood : List ℕ → List Float → Bool
 edgeGood v s = faceKnown v && toleranceOk (edgeTolerance v s)
@@ -57,25 +58,25 @@ vertexGood v s = ownKnown v && toleranceOk (vertexTolerance v s)
 -- ---- the fields, as `model` reads them off a record's words and floats
 
 abbrev pub bodyGiven : List ℕ → List ℕ
-bodyGiven v = bodyFields (seenKind (kindOf (word v 0)))
+bodyGiven v = bodyFields (seenKind (kindOf (word v AT-BODY-KIND)))
 
 abbrev pub regionGiven : List ℕ → List ℕ
-regionGiven v = regionFields (word v 0) (flagAt v 1)
+regionGiven v = regionFields (word v AT-REGION-BODY) (flagAt v AT-REGION-SOLID)
 
 abbrev pub shellGiven : List ℕ → List ℕ
-shellGiven v = shellFields (word v 0)
+shellGiven v = shellFields (word v AT-SHELL-REGION)
 
 abbrev pub faceGiven : List ℕ → List ℕ
-faceGiven v = faceFields (seenRef (maybeAt v 0)) (seenRef (maybeAt v 2)) (seenRef (maybeAt v 4)) (seenSense (senseOf (word v 6)))
+faceGiven v = faceFields (seenRef (maybeAt v AT-FACE-FRONT)) (seenRef (maybeAt v AT-FACE-BACK)) (seenRef (maybeAt v AT-FACE-SURFACE)) (seenSense (senseOf (word v AT-FACE-SENSE)))
 
 abbrev pub loopGiven : List ℕ → List ℕ
-loopGiven v = loopFields (word v 0)
+loopGiven v = loopFields (word v AT-LOOP-FACE)
 
 abbrev pub finGiven : List ℕ → List ℕ
-finGiven v = finFields (word v 0) (word v 1) (seenSense (senseOf (word v 2))) (flagAt v 3)
+finGiven v = finFields (word v AT-FIN-LOOP) (word v AT-FIN-EDGE) (seenSense (senseOf (word v AT-FIN-SENSE))) (flagAt v AT-FIN-PCURVE)
 
 abbrev pub edgeGiven : List ℕ → List Float → List ℕ
-edgeGiven v s = edgeFields (seenRef (maybeAt v 0)) (seenRef (maybeAt v 2)) (seenRef (maybeAt v 4)) (edgeTolerance v s)
+edgeGiven v s = edgeFields (seenRef (maybeAt v AT-EDGE-START)) (seenRef (maybeAt v AT-EDGE-END)) (seenRef (maybeAt v AT-EDGE-CURVE)) (edgeTolerance v s)
 
 abbrev pub vertexGiven : List ℕ → List Float → List ℕ
 vertexGiven v s = vertexFields (vertexTolerance v s)
@@ -88,7 +89,7 @@ abbrev pub edgeOwn : List ℕ → List Float → List Float
 edgeOwn v s = edgeFloats (edgeTolerance v s)
 
 abbrev pub vertexOwn : List ℕ → List Float → List Float
-vertexOwn v s = vertexFloats (pointAt s 0) (vertexTolerance v s)
+vertexOwn v s = vertexFloats (pointAt s FLOAT-VERTEX-POINT) (vertexTolerance v s)
 
 abbrev pub carrierOwn : List ℕ → List Float → List Float
 carrierOwn v s = carrierFloats (carrierOf v s)

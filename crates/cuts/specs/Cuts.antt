@@ -16,6 +16,7 @@ use Rattle.meaning.specs.Lists.{count, countIf, all, allBelow}
 use Rattle.meaning.specs.Floats.{floatOf}
 use Rattle.meaning.specs.Model.{Model, edge}
 use Rattle.meaning.specs.Split.{isPositive}
+use Rattle.model.specs.Names.{SHELLS, FINS, EDGES, VERTICES, SHELL-WIRES, LOOP-FINS, AT-FIN-LOOP}
 use Rattle.model.specs.Layout.{word, wordsOf}
 use Rattle.model.specs.Entries.{listOf}
 use Rattle.segments.specs.declared.segment.Segment.{Segment}
@@ -52,20 +53,20 @@ pointTest s p precision =
 module _ (room w : List ℕ) where
   -- 12. "A wire shell lists the edge more than once"; 13. a shell gains a wire edge where it lists the edge
   unfoldable pub wireTest : ℕ → Bool → ℕ → Bool
-  wireTest e fit s = cond fit (leb (length (listOf room w 3 s) + count e (listOf room w 3 s)) 256) (leb (count e (listOf room w 3 s)) 1)
+  wireTest e fit s = cond fit (leb (length (listOf room w SHELL-WIRES s) + count e (listOf room w SHELL-WIRES s)) 256) (leb (count e (listOf room w SHELL-WIRES s)) 1)
 
   -- 13. "new fins in one loop counted together": a loop gains as many fins as the edge has in it
   unfoldable pub ownedBy : ℕ → ℕ → Bool
-  ownedBy l i = eqb (word (wordsOf room w 5 i) 0) l
+  ownedBy l i = eqb (word (wordsOf room w FINS i) AT-FIN-LOOP) l
 
   unfoldable pub loopTest : List ℕ → ℕ → Bool
   loopTest fins i =
-      leb (length (listOf room w 6 (word (wordsOf room w 5 i) 0)) + countIf (ownedBy (word (wordsOf room w 5 i) 0)) fins) 1024
+      leb (length (listOf room w LOOP-FINS (word (wordsOf room w FINS i) AT-FIN-LOOP)) + countIf (ownedBy (word (wordsOf room w FINS i) AT-FIN-LOOP)) fins) 1024
 
   -- 13. the tables, and the new edge's own list
   unfoldable pub tablesTest : List ℕ → Bool
   tablesTest fins =
-      leb (word w 5 + length fins) (word room 5) && leb (word w 6 + 1) (word room 6) && leb (word w 7 + 1) (word room 7) && leb (length fins) 8
+      leb (word w FINS + length fins) (word room FINS) && leb (word w EDGES + 1) (word room EDGES) && leb (word w VERTICES + 1) (word room VERTICES) && leb (length fins) 8
 
   unfoldable pub capacityTest : ℕ → List ℕ → Bool
-  capacityTest e fins = tablesTest fins && all (loopTest fins) fins && allBelow (wireTest e true) (word w 2)
+  capacityTest e fins = tablesTest fins && all (loopTest fins) fins && allBelow (wireTest e true) (word w SHELLS)

@@ -2,9 +2,10 @@
 use Prim.Native.Nat.{ℕ, _<_}
 use mathlib.Core.List.{List}
 use lib.ListN.{length}
+use Rattle.model.specs.Names.{LOOPS, FINS, AT-FIN-LOOP}
 use Rattle.model.specs.Layout.{word, wordsOf}
 
 -- the listed fins exist, and so do their loops
 pub record Owned (room w l : List ℕ) : Type 0 where
-  pub there : (k : ℕ) → k < length l → word l k < word w 5
-  pub owner : (k : ℕ) → k < length l → word (wordsOf room w 5 (word l k)) 0 < word w 4
+  pub there : (k : ℕ) → k < length l → word l k < word w FINS
+  pub owner : (k : ℕ) → k < length l → word (wordsOf room w FINS (word l k)) AT-FIN-LOOP < word w LOOPS

@@ -6,6 +6,7 @@ use Rattle.geometry.specs.Refuse.{_unless_, _then_}
 use Rattle.meaning.specs.Model.{Model, Limits}
 use Rattle.meaning.specs.Refuse.{firstRefusal}
 use Rattle.meaning.specs.Split.{test1, test2, test3, test4, test5, test6, test7, test8, test9, test10, test11, test12, test13, splitRefusal}
+use Rattle.model.specs.Names.{BODIES, REGIONS, SHELLS, FACES, LOOPS, FINS, EDGES, VERTICES, CURVES, SURFACES}
 use Rattle.model.specs.Layout.{word}
 use Rattle.model.specs.Decode.{decode}
 use Rattle.model.specs.Readable.{readable}
@@ -14,16 +15,16 @@ use Rattle.model.specs.Readable.{readable}
 abbrev pub limits : List ℕ → Limits
 limits room =
     record {
-      bodies = word room 0;
-      regions = word room 1;
-      shells = word room 2;
-      faces = word room 3;
-      loops = word room 4;
-      fins = word room 5;
-      edges = word room 6;
-      vertices = word room 7;
-      curves = word room 8;
-      surfaces = word room 9;
+      bodies = word room BODIES;
+      regions = word room REGIONS;
+      shells = word room SHELLS;
+      faces = word room FACES;
+      loops = word room LOOPS;
+      fins = word room FINS;
+      edges = word room EDGES;
+      vertices = word room VERTICES;
+      curves = word room CURVES;
+      surfaces = word room SURFACES;
       bodyRegions = 16;
       regionShells = 16;
       shellFaces = 512;

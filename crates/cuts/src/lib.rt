@@ -3,6 +3,10 @@ use entity::records::tolerance_of;
 use geometry::tolerance::effective_tolerance;
 use model::layout::reals_of;
 use model::layout::words_of;
+use model::names::AT_EDGE_TOLERANCE;
+use model::names::EDGES;
+use model::names::FLOAT_EDGE_TOLERANCE;
+use model::names::PRECISION;
 use segments::refusals::then;
 use segments::refusals::unless;
 use segments::segment::Segment;
@@ -13,6 +17,7 @@ use vectors::vector::Point3;
 use vectors::vector::is_finite;
 ghost use mathlib.Core.Path.{_≡_};
 ghost use Prim.Native.Nat.{_<_};
+ghost use Rattle.model.specs.Names.{EDGES};
 ghost use Rattle.model.specs.Layout.{word};
 ghost use Rattle.model.specs.Decode.{decode};
 ghost use Rattle.model.specs.Fit.{Sized};
@@ -47,12 +52,15 @@ pub fn cut_of(segment: Segment, fraction: f64, tolerance: f64) -> Cut
 // The edge's tolerance, else the session's.
 pub fn edge_tolerance(room: &[usize; 10], words: &[u32], reals: &[f64], edge: usize) -> f64
     requires { ⌜ Sized (now room) (now words) (now reals) ⌝ }
-    requires { ⌜ edge < word (now words) 6 ⌝ }
+    requires { ⌜ edge < word (now words) EDGES ⌝ }
     ensures { λ r. ⌜ r ≡ toleranceAt (decode (now (room .entry)) (now (words .entry)) (now (reals .entry))) edge ⌝ }
 {
-    let w = words_of(room, words, 6, edge);
-    let x = reals_of(room, reals, 6, edge);
-    effective_tolerance(tolerance_of(w[6], x[0]), reals[0])
+    let w = words_of(room, words, EDGES, edge);
+    let x = reals_of(room, reals, EDGES, edge);
+    effective_tolerance(
+        tolerance_of(w[AT_EDGE_TOLERANCE], x[FLOAT_EDGE_TOLERANCE]),
+        reals[PRECISION],
+    )
 }
 
 // Tests 9 and 10.

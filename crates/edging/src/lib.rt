@@ -3,6 +3,8 @@ use entity::records::Edge;
 use entity::records::Ref;
 use fetched::vertex_at;
 use geometry::tolerance::effective_tolerance;
+use model::names::PRECISION;
+use model::names::VERTICES;
 use points::curve_test;
 use points::point_on_surface;
 use points::sample_tests;
@@ -57,12 +59,12 @@ fn end_test(
     requires { ⌜ Enough t (endFindings (decode (now room) (now words) (now reals)) curve surface tol e v) ⌝ }
     ensures { λ r. ⌜ Noted (endFindings (decode (now (room .entry)) (now (words .entry)) (now (reals .entry))) curve surface tol e v) (now (nums .entry)) t (now (nums .exit)) r ⌝ }
 {
-    if words[7] <= v {
+    if words[VERTICES] <= v {
         return t;
     }
     let vertex = vertex_at(room, words, reals, v as usize);
     let local = vertex.tolerance;
-    let own = effective_tolerance(local, reals[0]);
+    let own = effective_tolerance(local, reals[PRECISION]);
     end_at(nums, t, curve, surface, vertex.point, own, tol, e, v)
 }
 

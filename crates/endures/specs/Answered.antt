@@ -8,6 +8,7 @@ use lib.Ieee.{Float}
 use Rattle.geometry.specs.Refuse.{answer}
 use Rattle.meaning.specs.Model.{Model}
 use Rattle.meaning.specs.Split.{splitRefusal}
+use Rattle.model.specs.Names.{EDGES, VERTICES}
 use Rattle.model.specs.Layout.{word}
 use Rattle.model.specs.Decode.{decode}
 use Rattle.model.specs.Readable.{readable}
@@ -34,7 +35,7 @@ module _ (room w : List ℕ) (x : List Float) (e : ℕ) (t : Float) (r : EdgeSpl
   unfolding splitAnswer splitNumber
   call-accepted h = rw h at (number-given (splitNumber room w x e t) _ r a)
 
-  pub call-value : record { «original_edge» = e; «new_edge» = word w 6; vertex = word w 7 } ≡ r
+  pub call-value : record { «original_edge» = e; «new_edge» = word w EDGES; vertex = word w VERTICES } ≡ r
   unfolding splitAnswer
   call-value = value-given (splitNumber room w x e t) _ r a
 

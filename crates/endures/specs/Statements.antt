@@ -10,6 +10,7 @@ use Rattle.meaning.specs.Model.{Model, Shell, shell}
 use Rattle.meaning.specs.Refuse.{given}
 use Rattle.meaning.specs.Split.{splitLineEdge, modelAfter, Cut, afterAll}
 use Rattle.meaning.specs.Formed.{WellFormed, topologicalReport, emptyReport, hasEdge}
+use Rattle.model.specs.Names.{EDGES, VERTICES}
 use Rattle.model.specs.Layout.{word}
 use Rattle.model.specs.Decode.{decode}
 use Rattle.model.specs.Readable.{readable}
@@ -124,7 +125,7 @@ module _ (room w : List ℕ) (x : List Float) (e : ℕ) (t : Float) (s : Sound r
     unfolding decode
     accepted-call-adds-one q =
         subst (λ (v : EdgeSplit). OneMore m after b (v .«new_edge») (v .vertex)) (call-value room w x e t r a)
-        (more-same m (modelAfter (limits room) m e t) after b (word w 6) (word w 7) (accepted-split-adds-one (limits room) m e t _ (s .formed) accepted b hb q) walks-after)
+        (more-same m (modelAfter (limits room) m e t) after b (word w EDGES) (word w VERTICES) (accepted-split-adds-one (limits room) m e t _ (s .formed) accepted b hb q) walks-after)
 
     pub accepted-call-leaves-others : hasEdge (decode room w x) b e ≡ false → SameWalks (decode room w x) (decode room (splitWords room w x e t) (splitReals room w x e t)) b
     accepted-call-leaves-others q =

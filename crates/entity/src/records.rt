@@ -3,6 +3,7 @@
 use geometry::curve::Line;
 use geometry::surface::Plane;
 use geometry::tolerance::Tolerance;
+use model::names::AT_CARRIER_TAG;
 use store::Carrier;
 use vectors::vector::Point3;
 use vectors::vector::Vec3;
@@ -153,13 +154,13 @@ pub fn carrier_of(w: &[u32], x: &[f64]) -> Carrier
     requires { ⌜ (length (now w) ≡ 1) × (length (now x) ≡ 6) ⌝ }
     ensures { λ r. ⌜ r ≡ carrierOf (now (w .entry)) (now (x .entry)) ⌝ }
 {
-    if w[0] == 0 {
+    if w[AT_CARRIER_TAG] == 0 {
         return Carrier::Line(Line {
             origin: point_of(x),
             direction: vec_of(x),
         });
     }
-    if w[0] == 1 {
+    if w[AT_CARRIER_TAG] == 1 {
         return Carrier::Plane(Plane {
             origin: point_of(x),
             normal: vec_of(x),

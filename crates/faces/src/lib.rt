@@ -4,6 +4,8 @@ use likened::checked_from;
 use likened::is_shell;
 use listing::list;
 use loops::loop_;
+use model::names::FACE_LOOPS;
+use model::names::FACES;
 use reasons::FACE;
 use reasons::SHELL;
 use reasons::Tally;
@@ -13,6 +15,7 @@ use rims::is_none;
 ghost use Prim.Native.Nat.{_≤_, _<_};
 ghost use Rattle.meaning.specs.Lists.{joined};
 ghost use Rattle.meaning.specs.Faults.{loopFindings, faceFindings};
+ghost use Rattle.model.specs.Names.{FACES};
 ghost use Rattle.model.specs.Layout.{word};
 ghost use Rattle.model.specs.Decode.{decode};
 ghost use Rattle.model.specs.Fit.{Fit};
@@ -33,7 +36,7 @@ fn all_loops(
     loops: &[u32],
 ) -> Tally
     requires { ⌜ Fit (now room) (now words) (now reals) ⌝ }
-    requires { ⌜ (n ≤ 255) × (f < word (now words) 3) ⌝ }
+    requires { ⌜ (n ≤ 255) × (f < word (now words) FACES) ⌝ }
     requires { ⌜ Enough t (joined (loopFindings (decode (now room) (now words) (now reals)) (options geometry n) f) (now loops)) ⌝ }
     ensures { λ r. ⌜ Noted (joined (loopFindings (decode (now (room .entry)) (now (words .entry)) (now (reals .entry))) (options geometry n) f) (now (loops .entry))) (now (nums .entry)) t (now (nums .exit)) r ⌝ }
 {
@@ -58,7 +61,7 @@ fn face_inside(
     f: u32,
 ) -> Tally
     requires { ⌜ Fit (now room) (now words) (now reals) ⌝ }
-    requires { ⌜ (n ≤ 255) × (f < word (now words) 3) ⌝ }
+    requires { ⌜ (n ≤ 255) × (f < word (now words) FACES) ⌝ }
     requires { ⌜ Enough t (insideFindings (decode (now room) (now words) (now reals)) (options geometry n) f) ⌝ }
     ensures { λ r. ⌜ Noted (insideFindings (decode (now (room .entry)) (now (words .entry)) (now (reals .entry))) (options geometry n) f) (now (nums .entry)) t (now (nums .exit)) r ⌝ }
 {
@@ -66,7 +69,7 @@ fn face_inside(
     let surface = face.surface;
     let bare = is_none(surface);
     let a = note_if(nums, t, bare, 9, FACE, f);
-    let loops = list(room, words, 5, f as usize);
+    let loops = list(room, words, FACE_LOOPS, f as usize);
     all_loops(room, words, reals, nums, a, geometry, n, f, loops)
 }
 
@@ -87,7 +90,7 @@ pub fn face(
     requires { ⌜ Enough t (faceFindings (decode (now room) (now words) (now reals)) (options geometry n) s f) ⌝ }
     ensures { λ r. ⌜ Noted (faceFindings (decode (now (room .entry)) (now (words .entry)) (now (reals .entry))) (options geometry n) s f) (now (nums .entry)) t (now (nums .exit)) r ⌝ }
 {
-    if words[3] <= f {
+    if words[FACES] <= f {
         return note(nums, t, 7, SHELL, s);
     }
     let face = face_at(room, words, f as usize);

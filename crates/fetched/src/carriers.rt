@@ -1,6 +1,8 @@
 // Carriers by id.
 use crate::found;
 use geometry::curve::Line;
+use model::names::CURVES;
+use model::names::SURFACES;
 use store::Found;
 use store::LineFound;
 use store::line_of;
@@ -17,14 +19,14 @@ pub fn curve_found(room: &[usize; 10], words: &[u32], reals: &[f64], id: usize) 
     requires { ⌜ Sized (now room) (now words) (now reals) ⌝ }
     ensures { λ r. ⌜ r ≡ curve (decode (now (room .entry)) (now (words .entry)) (now (reals .entry))) id ⌝ }
 {
-    found(room, words, reals, 8, id)
+    found(room, words, reals, CURVES, id)
 }
 
 pub fn surface_found(room: &[usize; 10], words: &[u32], reals: &[f64], id: usize) -> Found
     requires { ⌜ Sized (now room) (now words) (now reals) ⌝ }
     ensures { λ r. ⌜ r ≡ surface (decode (now (room .entry)) (now (words .entry)) (now (reals .entry))) id ⌝ }
 {
-    found(room, words, reals, 9, id)
+    found(room, words, reals, SURFACES, id)
 }
 
 // 2 where there is no curve, 7 where it is no line, else 0.

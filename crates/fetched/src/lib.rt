@@ -20,6 +20,14 @@ use formed::shell_of;
 use formed::vertex_of;
 use model::layout::reals_of;
 use model::layout::words_of;
+use model::names::BODIES;
+use model::names::EDGES;
+use model::names::FACES;
+use model::names::FINS;
+use model::names::LOOPS;
+use model::names::REGIONS;
+use model::names::SHELLS;
+use model::names::VERTICES;
 use store::Carrier;
 use store::Found;
 ghost use mathlib.Core.Path.{_≡_};
@@ -27,6 +35,7 @@ ghost use Prim.Native.Nat.{_<_};
 ghost use mathlib.Core.List.{List};
 ghost use lib.Ieee.{Float};
 ghost use Rattle.meaning.specs.Model.{body, region, shell, face, loop, fin, edge, vertex, carrierAt};
+ghost use Rattle.model.specs.Names.{BODIES, REGIONS, SHELLS, FACES, LOOPS, FINS, EDGES, VERTICES};
 ghost use Rattle.model.specs.Layout.{word};
 ghost use Rattle.model.specs.Decode.{table, carrierOf, decode};
 ghost use Rattle.model.specs.Fit.{Sized, Fit, Lists};
@@ -35,66 +44,72 @@ ghost use Rattle.entity.specs.Seen.{seenBody, seenRegion, seenShell, seenFace, 
 // The first six tables have no floats: the promise holds whatever the floats are.
 pub fn body_at(room: &[usize; 10], words: &[u32], i: usize) -> Body
     requires { ⌜ Lists (now room) (now words) ⌝ }
-    requires { ⌜ i < word (now words) 0 ⌝ }
+    requires { ⌜ i < word (now words) BODIES ⌝ }
     ensures { λ r. ⌜ ((x : List Float) → r ≡ seenBody (body (decode (now (room .entry)) (now (words .entry)) x) i)) ⌝ }
 {
-    body_of(words_of(room, words, 0, i))
+    body_of(words_of(room, words, BODIES, i))
 }
 
 pub fn region_at(room: &[usize; 10], words: &[u32], i: usize) -> Region
     requires { ⌜ Lists (now room) (now words) ⌝ }
-    requires { ⌜ i < word (now words) 1 ⌝ }
+    requires { ⌜ i < word (now words) REGIONS ⌝ }
     ensures { λ r. ⌜ ((x : List Float) → r ≡ seenRegion (region (decode (now (room .entry)) (now (words .entry)) x) i)) ⌝ }
 {
-    region_of(words_of(room, words, 1, i))
+    region_of(words_of(room, words, REGIONS, i))
 }
 
 pub fn shell_at(room: &[usize; 10], words: &[u32], i: usize) -> Shell
     requires { ⌜ Lists (now room) (now words) ⌝ }
-    requires { ⌜ i < word (now words) 2 ⌝ }
+    requires { ⌜ i < word (now words) SHELLS ⌝ }
     ensures { λ r. ⌜ ((x : List Float) → r ≡ seenShell (shell (decode (now (room .entry)) (now (words .entry)) x) i)) ⌝ }
 {
-    shell_of(words_of(room, words, 2, i))
+    shell_of(words_of(room, words, SHELLS, i))
 }
 
 pub fn face_at(room: &[usize; 10], words: &[u32], i: usize) -> Face
     requires { ⌜ Lists (now room) (now words) ⌝ }
-    requires { ⌜ i < word (now words) 3 ⌝ }
+    requires { ⌜ i < word (now words) FACES ⌝ }
     ensures { λ r. ⌜ ((x : List Float) → r ≡ seenFace (face (decode (now (room .entry)) (now (words .entry)) x) i)) ⌝ }
 {
-    face_of(words_of(room, words, 3, i))
+    face_of(words_of(room, words, FACES, i))
 }
 
 pub fn loop_at(room: &[usize; 10], words: &[u32], i: usize) -> Loop
     requires { ⌜ Lists (now room) (now words) ⌝ }
-    requires { ⌜ i < word (now words) 4 ⌝ }
+    requires { ⌜ i < word (now words) LOOPS ⌝ }
     ensures { λ r. ⌜ ((x : List Float) → r ≡ seenLoop (loop (decode (now (room .entry)) (now (words .entry)) x) i)) ⌝ }
 {
-    loop_of(words_of(room, words, 4, i))
+    loop_of(words_of(room, words, LOOPS, i))
 }
 
 pub fn fin_at(room: &[usize; 10], words: &[u32], i: usize) -> Fin
     requires { ⌜ Lists (now room) (now words) ⌝ }
-    requires { ⌜ i < word (now words) 5 ⌝ }
+    requires { ⌜ i < word (now words) FINS ⌝ }
     ensures { λ r. ⌜ ((x : List Float) → r ≡ seenFin (fin (decode (now (room .entry)) (now (words .entry)) x) i)) ⌝ }
 {
-    fin_of(words_of(room, words, 5, i))
+    fin_of(words_of(room, words, FINS, i))
 }
 
 pub fn edge_at(room: &[usize; 10], words: &[u32], reals: &[f64], i: usize) -> Edge
     requires { ⌜ Fit (now room) (now words) (now reals) ⌝ }
-    requires { ⌜ i < word (now words) 6 ⌝ }
+    requires { ⌜ i < word (now words) EDGES ⌝ }
     ensures { λ r. ⌜ r ≡ seenEdge (edge (decode (now (room .entry)) (now (words .entry)) (now (reals .entry))) i) ⌝ }
 {
-    edge_of(words_of(room, words, 6, i), reals_of(room, reals, 6, i))
+    edge_of(
+        words_of(room, words, EDGES, i),
+        reals_of(room, reals, EDGES, i),
+    )
 }
 
 pub fn vertex_at(room: &[usize; 10], words: &[u32], reals: &[f64], i: usize) -> Vertex
     requires { ⌜ Sized (now room) (now words) (now reals) ⌝ }
-    requires { ⌜ i < word (now words) 7 ⌝ }
+    requires { ⌜ i < word (now words) VERTICES ⌝ }
     ensures { λ r. ⌜ r ≡ seenVertex (vertex (decode (now (room .entry)) (now (words .entry)) (now (reals .entry))) i) ⌝ }
 {
-    vertex_of(words_of(room, words, 7, i), reals_of(room, reals, 7, i))
+    vertex_of(
+        words_of(room, words, VERTICES, i),
+        reals_of(room, reals, VERTICES, i),
+    )
 }
 
 // Record i of table k, the curves or the surfaces.

@@ -8,6 +8,11 @@ use fetched::fin_at;
 use geometry::tolerance::effective_tolerance;
 use listing::list;
 use marks::has;
+use model::names::EDGE_FINS;
+use model::names::EDGES;
+use model::names::FINS;
+use model::names::PRECISION;
+use model::names::VERTICES;
 use reasons::EDGE;
 use reasons::FIN;
 use reasons::LOOP;
@@ -19,6 +24,7 @@ ghost use Prim.Native.Nat.{_≤_, _<_};
 ghost use Rattle.meaning.specs.Lists.{listed, joined};
 ghost use Rattle.meaning.specs.Model.{edge};
 ghost use Rattle.meaning.specs.Faults.{carried, finFindings};
+ghost use Rattle.model.specs.Names.{EDGES};
 ghost use Rattle.model.specs.Layout.{word};
 ghost use Rattle.model.specs.Decode.{decode};
 ghost use Rattle.model.specs.Fit.{Fit};
@@ -47,15 +53,15 @@ fn ends_there(
     e: u32,
 ) -> Tally
     requires { ⌜ Fit (now room) (now words) (now reals) ⌝ }
-    requires { ⌜ e < word (now words) 6 ⌝ }
+    requires { ⌜ e < word (now words) EDGES ⌝ }
     requires { ⌜ Enough t (verticesThere (decode (now room) (now words) (now reals)) e) ⌝ }
     ensures { λ r. ⌜ Noted (verticesThere (decode (now (room .entry)) (now (words .entry)) (now (reals .entry))) e) (now (nums .entry)) t (now (nums .exit)) r ⌝ }
 {
     let edge = edge_at(room, words, reals, e as usize);
     let start = edge.start;
     let end = edge.end;
-    let a = end_there(nums, t, words[7], e, start);
-    end_there(nums, a, words[7], e, end)
+    let a = end_there(nums, t, words[VERTICES], e, start);
+    end_there(nums, a, words[VERTICES], e, end)
 }
 
 // The fin i names the edge e.
@@ -72,10 +78,10 @@ fn fin_edge(
     requires { ⌜ Enough t (finEdge (decode (now room) (now words) (now reals)) i e) ⌝ }
     ensures { λ r. ⌜ Noted (finEdge (decode (now (room .entry)) (now (words .entry)) (now (reals .entry))) i e) (now (nums .entry)) t (now (nums .exit)) r ⌝ }
 {
-    if words[6] <= e {
+    if words[EDGES] <= e {
         return note(nums, t, 15, FIN, i);
     }
-    let listed = has(list(room, words, 7, e as usize), i);
+    let listed = has(list(room, words, EDGE_FINS, e as usize), i);
     let a = note_if(nums, t, !listed, 16, EDGE, e);
     ends_there(room, words, reals, nums, a, e)
 }
@@ -94,7 +100,7 @@ pub fn fin(
     requires { ⌜ Enough t (finFindings (decode (now room) (now words) (now reals)) l i) ⌝ }
     ensures { λ r. ⌜ Noted (finFindings (decode (now (room .entry)) (now (words .entry)) (now (reals .entry))) l i) (now (nums .entry)) t (now (nums .exit)) r ⌝ }
 {
-    if words[5] <= i {
+    if words[FINS] <= i {
         return note(nums, t, 13, LOOP, l);
     }
     let fin = fin_at(room, words, i as usize);
@@ -115,13 +121,13 @@ fn carried_on(
     s: u32,
 ) -> Tally
     requires { ⌜ Fit (now room) (now words) (now reals) ⌝ }
-    requires { ⌜ (n ≤ 255) × (e < word (now words) 6) ⌝ }
+    requires { ⌜ (n ≤ 255) × (e < word (now words) EDGES) ⌝ }
     requires { ⌜ Enough t (carried (decode (now room) (now words) (now reals)) n e (some c) (some s)) ⌝ }
     ensures { λ r. ⌜ Noted (carried (decode (now (room .entry)) (now (words .entry)) (now (reals .entry))) n e (some c) (some s)) (now (nums .entry)) t (now (nums .exit)) r ⌝ }
 {
     let edge = edge_at(room, words, reals, e as usize);
     let local = edge.tolerance;
-    let tol = effective_tolerance(local, reals[0]);
+    let tol = effective_tolerance(local, reals[PRECISION]);
     let curve = curve_found(room, words, reals, c as usize);
     let surface = surface_found(room, words, reals, s as usize);
     rim(room, words, reals, nums, t, curve, surface, tol, n, e, edge)
@@ -139,7 +145,7 @@ fn edge_geometry(
     surface: Ref,
 ) -> Tally
     requires { ⌜ Fit (now room) (now words) (now reals) ⌝ }
-    requires { ⌜ (n ≤ 255) × (e < word (now words) 6) ⌝ }
+    requires { ⌜ (n ≤ 255) × (e < word (now words) EDGES) ⌝ }
     requires { ⌜ Enough t (carried (decode (now room) (now words) (now reals)) n e (edge (decode (now room) (now words) (now reals)) e .curve) (refOf surface)) ⌝ }
     ensures { λ r. ⌜ Noted (carried (decode (now (room .entry)) (now (words .entry)) (now (reals .entry))) n e (edge (decode (now (room .entry)) (now (words .entry)) (now (reals .entry))) e .curve) (refOf surface)) (now (nums .entry)) t (now (nums .exit)) r ⌝ }
 {
@@ -170,11 +176,11 @@ pub fn fin_geometry(
     requires { ⌜ Enough t (finOn (decode (now room) (now words) (now reals)) n (refOf surface) i) ⌝ }
     ensures { λ r. ⌜ Noted (finOn (decode (now (room .entry)) (now (words .entry)) (now (reals .entry))) n (refOf surface) i) (now (nums .entry)) t (now (nums .exit)) r ⌝ }
 {
-    if words[5] <= i {
+    if words[FINS] <= i {
         return t;
     }
     let e = fin_at(room, words, i as usize).edge;
-    if words[6] <= e {
+    if words[EDGES] <= e {
         return t;
     }
     edge_geometry(room, words, reals, nums, t, n, e, surface)

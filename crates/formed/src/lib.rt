@@ -12,67 +12,96 @@ use entity::records::point_of;
 use entity::records::ref_at;
 use entity::records::sense_of;
 use entity::records::tolerance_of;
+use model::names::AT_BODY_KIND;
+use model::names::AT_BODY_REGIONS;
+use model::names::AT_EDGE_CURVE;
+use model::names::AT_EDGE_END;
+use model::names::AT_EDGE_FINS;
+use model::names::AT_EDGE_START;
+use model::names::AT_EDGE_TOLERANCE;
+use model::names::AT_FACE_BACK;
+use model::names::AT_FACE_FRONT;
+use model::names::AT_FACE_LOOPS;
+use model::names::AT_FACE_SENSE;
+use model::names::AT_FACE_SURFACE;
+use model::names::AT_FIN_EDGE;
+use model::names::AT_FIN_LOOP;
+use model::names::AT_FIN_PCURVE;
+use model::names::AT_FIN_SENSE;
+use model::names::AT_LOOP_FACE;
+use model::names::AT_LOOP_FINS;
+use model::names::AT_REGION_BODY;
+use model::names::AT_REGION_SHELLS;
+use model::names::AT_REGION_SOLID;
+use model::names::AT_SHELL_ACORNS;
+use model::names::AT_SHELL_FACES;
+use model::names::AT_SHELL_REGION;
+use model::names::AT_SHELL_WIRES;
+use model::names::AT_VERTEX_TOLERANCE;
+use model::names::FLOAT_EDGE_TOLERANCE;
+use model::names::FLOAT_VERTEX_TOLERANCE;
 ghost use mathlib.Core.Path.{_≡_};
 ghost use lib.ListN.{length};
+ghost use Rattle.model.specs.Names.{AT-BODY-REGIONS, AT-REGION-SHELLS, AT-SHELL-FACES, AT-SHELL-WIRES, AT-SHELL-ACORNS, AT-FACE-LOOPS, AT-LOOP-FINS, AT-EDGE-FINS};
 ghost use Rattle.model.specs.Decode.{bodyOf, regionOf, shellOf, faceOf, loopOf, finOf, edgeOf, vertexOf};
 ghost use Rattle.model.specs.Fit.{Held};
 ghost use Rattle.entity.specs.Seen.{seenBody, seenRegion, seenShell, seenFace, seenLoop, seenFin, seenEdge, seenVertex};
 
 pub fn body_of(w: &[u32]) -> Body
-    requires { ⌜ Held (now w) 1 ⌝ }
+    requires { ⌜ Held (now w) AT-BODY-REGIONS ⌝ }
     ensures { λ r. ⌜ r ≡ seenBody (bodyOf (now (w .entry))) ⌝ }
 {
     Body {
-        kind: kind_of(w[0]),
-        regions: w[1],
+        kind: kind_of(w[AT_BODY_KIND]),
+        regions: w[AT_BODY_REGIONS],
     }
 }
 
 pub fn region_of(w: &[u32]) -> Region
-    requires { ⌜ Held (now w) 2 ⌝ }
+    requires { ⌜ Held (now w) AT-REGION-SHELLS ⌝ }
     ensures { λ r. ⌜ r ≡ seenRegion (regionOf (now (w .entry))) ⌝ }
 {
     Region {
-        body: w[0],
-        solid: w[1] != 0,
-        shells: w[2],
+        body: w[AT_REGION_BODY],
+        solid: w[AT_REGION_SOLID] != 0,
+        shells: w[AT_REGION_SHELLS],
     }
 }
 
 pub fn shell_of(w: &[u32]) -> Shell
-    requires { ⌜ Held (now w) 1 ⌝ }
-    requires { ⌜ Held (now w) 514 ⌝ }
-    requires { ⌜ Held (now w) 771 ⌝ }
+    requires { ⌜ Held (now w) AT-SHELL-FACES ⌝ }
+    requires { ⌜ Held (now w) AT-SHELL-WIRES ⌝ }
+    requires { ⌜ Held (now w) AT-SHELL-ACORNS ⌝ }
     ensures { λ r. ⌜ r ≡ seenShell (shellOf (now (w .entry))) ⌝ }
 {
     Shell {
-        region: w[0],
-        faces: w[1],
-        wire_edges: w[514],
-        acorn_vertices: w[771],
+        region: w[AT_SHELL_REGION],
+        faces: w[AT_SHELL_FACES],
+        wire_edges: w[AT_SHELL_WIRES],
+        acorn_vertices: w[AT_SHELL_ACORNS],
     }
 }
 
 pub fn face_of(w: &[u32]) -> Face
-    requires { ⌜ Held (now w) 7 ⌝ }
+    requires { ⌜ Held (now w) AT-FACE-LOOPS ⌝ }
     ensures { λ r. ⌜ r ≡ seenFace (faceOf (now (w .entry))) ⌝ }
 {
     Face {
-        front: ref_at(w, 0),
-        back: ref_at(w, 2),
-        surface: ref_at(w, 4),
-        sense: sense_of(w[6]),
-        loops: w[7],
+        front: ref_at(w, AT_FACE_FRONT),
+        back: ref_at(w, AT_FACE_BACK),
+        surface: ref_at(w, AT_FACE_SURFACE),
+        sense: sense_of(w[AT_FACE_SENSE]),
+        loops: w[AT_FACE_LOOPS],
     }
 }
 
 pub fn loop_of(w: &[u32]) -> Loop
-    requires { ⌜ Held (now w) 1 ⌝ }
+    requires { ⌜ Held (now w) AT-LOOP-FINS ⌝ }
     ensures { λ r. ⌜ r ≡ seenLoop (loopOf (now (w .entry))) ⌝ }
 {
     Loop {
-        face: w[0],
-        fins: w[1],
+        face: w[AT_LOOP_FACE],
+        fins: w[AT_LOOP_FINS],
     }
 }
 
@@ -81,24 +110,24 @@ pub fn fin_of(w: &[u32]) -> Fin
     ensures { λ r. ⌜ r ≡ seenFin (finOf (now (w .entry))) ⌝ }
 {
     Fin {
-        owner: w[0],
-        edge: w[1],
-        sense: sense_of(w[2]),
-        pcurve: w[3] != 0,
+        owner: w[AT_FIN_LOOP],
+        edge: w[AT_FIN_EDGE],
+        sense: sense_of(w[AT_FIN_SENSE]),
+        pcurve: w[AT_FIN_PCURVE] != 0,
     }
 }
 
 pub fn edge_of(w: &[u32], x: &[f64]) -> Edge
-    requires { ⌜ Held (now w) 7 ⌝ }
+    requires { ⌜ Held (now w) AT-EDGE-FINS ⌝ }
     requires { ⌜ length (now x) ≡ 1 ⌝ }
     ensures { λ r. ⌜ r ≡ seenEdge (edgeOf (now (w .entry)) (now (x .entry))) ⌝ }
 {
     Edge {
-        start: ref_at(w, 0),
-        end: ref_at(w, 2),
-        curve: ref_at(w, 4),
-        tolerance: tolerance_of(w[6], x[0]),
-        fins: w[7],
+        start: ref_at(w, AT_EDGE_START),
+        end: ref_at(w, AT_EDGE_END),
+        curve: ref_at(w, AT_EDGE_CURVE),
+        tolerance: tolerance_of(w[AT_EDGE_TOLERANCE], x[FLOAT_EDGE_TOLERANCE]),
+        fins: w[AT_EDGE_FINS],
     }
 }
 
@@ -108,6 +137,6 @@ pub fn vertex_of(w: &[u32], x: &[f64]) -> Vertex
 {
     Vertex {
         point: point_of(x),
-        tolerance: tolerance_of(w[0], x[3]),
+        tolerance: tolerance_of(w[AT_VERTEX_TOLERANCE], x[FLOAT_VERTEX_TOLERANCE]),
     }
 }

@@ -1,5 +1,15 @@
 // The fields of a record as a C program hands them over: the numbers of `values`, without the lists. `specs/Given.antt` of `crossings`
 // says which fields they name.
+use model::names::AT_BODY_KIND;
+use model::names::AT_CARRIER_TAG;
+use model::names::AT_FACE_BACK;
+use model::names::AT_FACE_FRONT;
+use model::names::AT_FACE_SENSE;
+use model::names::AT_FACE_SURFACE;
+use model::names::AT_FIN_PCURVE;
+use model::names::AT_FIN_SENSE;
+use model::names::AT_REGION_SOLID;
+use model::names::AT_VERTEX_TOLERANCE;
 use present::EntityRef;
 use vectors::vector::Point3;
 ghost use mathlib.Core.Path.{_≡_};
@@ -11,39 +21,42 @@ ghost use Rattle.crossings.specs.Given.{bodyKnown, regionKnown, faceKnown, finK
 pub fn body_known(value: &[u32; 1]) -> bool
     ensures { λ r. ⌜ r ≡ bodyKnown (was value) ⌝ }
 {
-    value[0] <= 4
+    value[AT_BODY_KIND] <= 4
 }
 
 pub fn region_known(value: &[u32; 2]) -> bool
     ensures { λ r. ⌜ r ≡ regionKnown (was value) ⌝ }
 {
-    value[1] <= 1
+    value[AT_REGION_SOLID] <= 1
 }
 
 // The tags of three optional ids and a sense or a tolerance.
 pub fn face_known(value: &[u32; 7]) -> bool
     ensures { λ r. ⌜ r ≡ faceKnown (was value) ⌝ }
 {
-    (value[0] <= 1) & (value[2] <= 1) & (value[4] <= 1) & (value[6] <= 1)
+    (value[AT_FACE_FRONT] <= 1)
+        & (value[AT_FACE_BACK] <= 1)
+        & (value[AT_FACE_SURFACE] <= 1)
+        & (value[AT_FACE_SENSE] <= 1)
 }
 
 pub fn fin_known(value: &[u32; 4]) -> bool
     ensures { λ r. ⌜ r ≡ finKnown (was value) ⌝ }
 {
-    (value[2] <= 1) & (value[3] <= 1)
+    (value[AT_FIN_SENSE] <= 1) & (value[AT_FIN_PCURVE] <= 1)
 }
 
 // The tag of a vertex's tolerance.
 pub fn own_known(value: &[u32; 1]) -> bool
     ensures { λ r. ⌜ r ≡ ownKnown (was value) ⌝ }
 {
-    value[0] <= 1
+    value[AT_VERTEX_TOLERANCE] <= 1
 }
 
 pub fn carrier_known(value: &[u32; 1]) -> bool
     ensures { λ r. ⌜ r ≡ carrierKnown (was value) ⌝ }
 {
-    value[0] <= 2
+    value[AT_CARRIER_TAG] <= 2
 }
 
 pub fn point_of(floats: &[f64; 4]) -> Point3

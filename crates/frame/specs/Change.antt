@@ -9,6 +9,7 @@ use lib.Ieee.{Float}
 use Rattle.store.specs.declared.Carrier.{Carrier}
 use Rattle.meaning.specs.Model.{Model, Table, Body, Region, Shell, Face, Loop, Fin, Edge, Vertex}
 use Rattle.meaning.specs.Edits.{inserted, edited}
+use Rattle.model.specs.Names.{BODIES, REGIONS, SHELLS, FACES, LOOPS, FINS, EDGES, VERTICES, CURVES, SURFACES}
 use Rattle.model.specs.Decode.{bodyOf, regionOf, shellOf, faceOf, loopOf, finOf, edgeOf, vertexOf, carrierOf}
 
 pub record SameTable {A : Type 0} (t u : Table A) : Type 0 where
@@ -33,16 +34,16 @@ abbrev each : ((A : Type 0) → ℕ → Table A → A → Table A) → List ℕ 
 each f r s m =
     record {
       precision = m .precision;
-      bodies = f Body 0 (m .bodies) (bodyOf r);
-      regions = f Region 1 (m .regions) (regionOf r);
-      shells = f Shell 2 (m .shells) (shellOf r);
-      faces = f Face 3 (m .faces) (faceOf r);
-      loops = f Loop 4 (m .loops) (loopOf r);
-      fins = f Fin 5 (m .fins) (finOf r);
-      edges = f Edge 6 (m .edges) (edgeOf r s);
-      vertices = f Vertex 7 (m .vertices) (vertexOf r s);
-      curves = f Carrier 8 (m .curves) (carrierOf r s);
-      surfaces = f Carrier 9 (m .surfaces) (carrierOf r s);
+      bodies = f Body BODIES (m .bodies) (bodyOf r);
+      regions = f Region REGIONS (m .regions) (regionOf r);
+      shells = f Shell SHELLS (m .shells) (shellOf r);
+      faces = f Face FACES (m .faces) (faceOf r);
+      loops = f Loop LOOPS (m .loops) (loopOf r);
+      fins = f Fin FINS (m .fins) (finOf r);
+      edges = f Edge EDGES (m .edges) (edgeOf r s);
+      vertices = f Vertex VERTICES (m .vertices) (vertexOf r s);
+      curves = f Carrier CURVES (m .curves) (carrierOf r s);
+      surfaces = f Carrier SURFACES (m .surfaces) (carrierOf r s);
     }
 
 -- record i of table k is the one of the words r and the floats s

@@ -18,6 +18,14 @@ use fields::vertex_fields;
 use fields::vertex_floats;
 use geometry::tolerance::Tolerance;
 use lone::insert_fields;
+use model::names::BODIES;
+use model::names::CURVES;
+use model::names::EDGES;
+use model::names::FACES;
+use model::names::FINS;
+use model::names::REGIONS;
+use model::names::SURFACES;
+use model::names::VERTICES;
 use store::Carrier;
 use vectors::vector::Point3;
 ghost use mathlib.Core.Path.{_≡_};
@@ -26,6 +34,7 @@ ghost use mathlib.Core.List.{[]};
 ghost use Rattle.meaning.specs.Edits.{toleranceOk};
 ghost use Rattle.edits.specs.Answers.{insertAnswer, insertWords, insertReals};
 ghost use Rattle.fields.specs.Fields.{bodyFields, regionFields, faceFields, finFields, edgeFields, vertexFields, carrierFields, edgeFloats, vertexFloats, carrierFloats};
+ghost use Rattle.model.specs.Names.{BODIES, REGIONS, FACES, FINS, EDGES, VERTICES, CURVES, SURFACES};
 
 pub fn insert_body(
     room: &[usize; 10],
@@ -33,12 +42,12 @@ pub fn insert_body(
     reals: &mut [f64],
     kind: BodyKind,
 ) -> Inserted
-    ensures answer { λ r. ⌜ r ≡ insertAnswer (now (room .entry)) (now (words .entry)) (now (reals .entry)) true 0 ⌝ }
-    ensures tables { λ _. ⌜ now (words .exit) ≡ insertWords (now (room .entry)) (now (words .entry)) (now (reals .entry)) true 0 (bodyFields kind) ⌝ }
-    ensures floats { λ _. ⌜ now (reals .exit) ≡ insertReals (now (room .entry)) (now (words .entry)) (now (reals .entry)) true 0 [] ⌝ }
+    ensures answer { λ r. ⌜ r ≡ insertAnswer (now (room .entry)) (now (words .entry)) (now (reals .entry)) true BODIES ⌝ }
+    ensures tables { λ _. ⌜ now (words .exit) ≡ insertWords (now (room .entry)) (now (words .entry)) (now (reals .entry)) true BODIES (bodyFields kind) ⌝ }
+    ensures floats { λ _. ⌜ now (reals .exit) ≡ insertReals (now (room .entry)) (now (words .entry)) (now (reals .entry)) true BODIES [] ⌝ }
 {
     let fields = body_fields(kind);
-    insert_fields(room, words, reals, 0, &fields)
+    insert_fields(room, words, reals, BODIES, &fields)
 }
 
 pub fn insert_region(
@@ -48,12 +57,12 @@ pub fn insert_region(
     body: u32,
     solid: bool,
 ) -> Inserted
-    ensures answer { λ r. ⌜ r ≡ insertAnswer (now (room .entry)) (now (words .entry)) (now (reals .entry)) true 1 ⌝ }
-    ensures tables { λ _. ⌜ now (words .exit) ≡ insertWords (now (room .entry)) (now (words .entry)) (now (reals .entry)) true 1 (regionFields body solid) ⌝ }
-    ensures floats { λ _. ⌜ now (reals .exit) ≡ insertReals (now (room .entry)) (now (words .entry)) (now (reals .entry)) true 1 [] ⌝ }
+    ensures answer { λ r. ⌜ r ≡ insertAnswer (now (room .entry)) (now (words .entry)) (now (reals .entry)) true REGIONS ⌝ }
+    ensures tables { λ _. ⌜ now (words .exit) ≡ insertWords (now (room .entry)) (now (words .entry)) (now (reals .entry)) true REGIONS (regionFields body solid) ⌝ }
+    ensures floats { λ _. ⌜ now (reals .exit) ≡ insertReals (now (room .entry)) (now (words .entry)) (now (reals .entry)) true REGIONS [] ⌝ }
 {
     let fields = region_fields(body, solid);
-    insert_fields(room, words, reals, 1, &fields)
+    insert_fields(room, words, reals, REGIONS, &fields)
 }
 
 pub fn insert_face(
@@ -65,12 +74,12 @@ pub fn insert_face(
     surface: Ref,
     sense: Sense,
 ) -> Inserted
-    ensures answer { λ r. ⌜ r ≡ insertAnswer (now (room .entry)) (now (words .entry)) (now (reals .entry)) true 3 ⌝ }
-    ensures tables { λ _. ⌜ now (words .exit) ≡ insertWords (now (room .entry)) (now (words .entry)) (now (reals .entry)) true 3 (faceFields front back surface sense) ⌝ }
-    ensures floats { λ _. ⌜ now (reals .exit) ≡ insertReals (now (room .entry)) (now (words .entry)) (now (reals .entry)) true 3 [] ⌝ }
+    ensures answer { λ r. ⌜ r ≡ insertAnswer (now (room .entry)) (now (words .entry)) (now (reals .entry)) true FACES ⌝ }
+    ensures tables { λ _. ⌜ now (words .exit) ≡ insertWords (now (room .entry)) (now (words .entry)) (now (reals .entry)) true FACES (faceFields front back surface sense) ⌝ }
+    ensures floats { λ _. ⌜ now (reals .exit) ≡ insertReals (now (room .entry)) (now (words .entry)) (now (reals .entry)) true FACES [] ⌝ }
 {
     let fields = face_fields(front, back, surface, sense);
-    insert_fields(room, words, reals, 3, &fields)
+    insert_fields(room, words, reals, FACES, &fields)
 }
 
 pub fn insert_fin(
@@ -82,12 +91,12 @@ pub fn insert_fin(
     sense: Sense,
     pcurve: bool,
 ) -> Inserted
-    ensures answer { λ r. ⌜ r ≡ insertAnswer (now (room .entry)) (now (words .entry)) (now (reals .entry)) true 5 ⌝ }
-    ensures tables { λ _. ⌜ now (words .exit) ≡ insertWords (now (room .entry)) (now (words .entry)) (now (reals .entry)) true 5 (finFields owner edge sense pcurve) ⌝ }
-    ensures floats { λ _. ⌜ now (reals .exit) ≡ insertReals (now (room .entry)) (now (words .entry)) (now (reals .entry)) true 5 [] ⌝ }
+    ensures answer { λ r. ⌜ r ≡ insertAnswer (now (room .entry)) (now (words .entry)) (now (reals .entry)) true FINS ⌝ }
+    ensures tables { λ _. ⌜ now (words .exit) ≡ insertWords (now (room .entry)) (now (words .entry)) (now (reals .entry)) true FINS (finFields owner edge sense pcurve) ⌝ }
+    ensures floats { λ _. ⌜ now (reals .exit) ≡ insertReals (now (room .entry)) (now (words .entry)) (now (reals .entry)) true FINS [] ⌝ }
 {
     let fields = fin_fields(owner, edge, sense, pcurve);
-    insert_fields(room, words, reals, 5, &fields)
+    insert_fields(room, words, reals, FINS, &fields)
 }
 
 pub fn insert_edge(
@@ -99,9 +108,9 @@ pub fn insert_edge(
     curve: Ref,
     tolerance: Tolerance,
 ) -> Inserted
-    ensures answer { λ r. ⌜ r ≡ insertAnswer (now (room .entry)) (now (words .entry)) (now (reals .entry)) (toleranceOk tolerance) 6 ⌝ }
-    ensures tables { λ _. ⌜ now (words .exit) ≡ insertWords (now (room .entry)) (now (words .entry)) (now (reals .entry)) (toleranceOk tolerance) 6 (edgeFields start end curve tolerance) ⌝ }
-    ensures floats { λ _. ⌜ now (reals .exit) ≡ insertReals (now (room .entry)) (now (words .entry)) (now (reals .entry)) (toleranceOk tolerance) 6 (edgeFloats tolerance) ⌝ }
+    ensures answer { λ r. ⌜ r ≡ insertAnswer (now (room .entry)) (now (words .entry)) (now (reals .entry)) (toleranceOk tolerance) EDGES ⌝ }
+    ensures tables { λ _. ⌜ now (words .exit) ≡ insertWords (now (room .entry)) (now (words .entry)) (now (reals .entry)) (toleranceOk tolerance) EDGES (edgeFields start end curve tolerance) ⌝ }
+    ensures floats { λ _. ⌜ now (reals .exit) ≡ insertReals (now (room .entry)) (now (words .entry)) (now (reals .entry)) (toleranceOk tolerance) EDGES (edgeFloats tolerance) ⌝ }
 {
     let fields = edge_fields(start, end, curve, tolerance);
     let floats = edge_floats(tolerance);
@@ -110,7 +119,7 @@ pub fn insert_edge(
         words,
         reals,
         tolerance_ok(tolerance),
-        6,
+        EDGES,
         &fields,
         &floats,
     )
@@ -123,9 +132,9 @@ pub fn insert_vertex(
     point: Point3,
     tolerance: Tolerance,
 ) -> Inserted
-    ensures answer { λ r. ⌜ r ≡ insertAnswer (now (room .entry)) (now (words .entry)) (now (reals .entry)) (toleranceOk tolerance) 7 ⌝ }
-    ensures tables { λ _. ⌜ now (words .exit) ≡ insertWords (now (room .entry)) (now (words .entry)) (now (reals .entry)) (toleranceOk tolerance) 7 (vertexFields tolerance) ⌝ }
-    ensures floats { λ _. ⌜ now (reals .exit) ≡ insertReals (now (room .entry)) (now (words .entry)) (now (reals .entry)) (toleranceOk tolerance) 7 (vertexFloats point tolerance) ⌝ }
+    ensures answer { λ r. ⌜ r ≡ insertAnswer (now (room .entry)) (now (words .entry)) (now (reals .entry)) (toleranceOk tolerance) VERTICES ⌝ }
+    ensures tables { λ _. ⌜ now (words .exit) ≡ insertWords (now (room .entry)) (now (words .entry)) (now (reals .entry)) (toleranceOk tolerance) VERTICES (vertexFields tolerance) ⌝ }
+    ensures floats { λ _. ⌜ now (reals .exit) ≡ insertReals (now (room .entry)) (now (words .entry)) (now (reals .entry)) (toleranceOk tolerance) VERTICES (vertexFloats point tolerance) ⌝ }
 {
     let fields = vertex_fields(tolerance);
     let floats = vertex_floats(point, tolerance);
@@ -134,7 +143,7 @@ pub fn insert_vertex(
         words,
         reals,
         tolerance_ok(tolerance),
-        7,
+        VERTICES,
         &fields,
         &floats,
     )
@@ -146,13 +155,13 @@ pub fn insert_curve(
     reals: &mut [f64],
     carrier: Carrier,
 ) -> Inserted
-    ensures answer { λ r. ⌜ r ≡ insertAnswer (now (room .entry)) (now (words .entry)) (now (reals .entry)) true 8 ⌝ }
-    ensures tables { λ _. ⌜ now (words .exit) ≡ insertWords (now (room .entry)) (now (words .entry)) (now (reals .entry)) true 8 (carrierFields carrier) ⌝ }
-    ensures floats { λ _. ⌜ now (reals .exit) ≡ insertReals (now (room .entry)) (now (words .entry)) (now (reals .entry)) true 8 (carrierFloats carrier) ⌝ }
+    ensures answer { λ r. ⌜ r ≡ insertAnswer (now (room .entry)) (now (words .entry)) (now (reals .entry)) true CURVES ⌝ }
+    ensures tables { λ _. ⌜ now (words .exit) ≡ insertWords (now (room .entry)) (now (words .entry)) (now (reals .entry)) true CURVES (carrierFields carrier) ⌝ }
+    ensures floats { λ _. ⌜ now (reals .exit) ≡ insertReals (now (room .entry)) (now (words .entry)) (now (reals .entry)) true CURVES (carrierFloats carrier) ⌝ }
 {
     let fields = carrier_fields(carrier);
     let floats = carrier_floats(carrier);
-    insert(room, words, reals, true, 8, &fields, &floats)
+    insert(room, words, reals, true, CURVES, &fields, &floats)
 }
 
 pub fn insert_surface(
@@ -161,11 +170,11 @@ pub fn insert_surface(
     reals: &mut [f64],
     carrier: Carrier,
 ) -> Inserted
-    ensures answer { λ r. ⌜ r ≡ insertAnswer (now (room .entry)) (now (words .entry)) (now (reals .entry)) true 9 ⌝ }
-    ensures tables { λ _. ⌜ now (words .exit) ≡ insertWords (now (room .entry)) (now (words .entry)) (now (reals .entry)) true 9 (carrierFields carrier) ⌝ }
-    ensures floats { λ _. ⌜ now (reals .exit) ≡ insertReals (now (room .entry)) (now (words .entry)) (now (reals .entry)) true 9 (carrierFloats carrier) ⌝ }
+    ensures answer { λ r. ⌜ r ≡ insertAnswer (now (room .entry)) (now (words .entry)) (now (reals .entry)) true SURFACES ⌝ }
+    ensures tables { λ _. ⌜ now (words .exit) ≡ insertWords (now (room .entry)) (now (words .entry)) (now (reals .entry)) true SURFACES (carrierFields carrier) ⌝ }
+    ensures floats { λ _. ⌜ now (reals .exit) ≡ insertReals (now (room .entry)) (now (words .entry)) (now (reals .entry)) true SURFACES (carrierFloats carrier) ⌝ }
 {
     let fields = carrier_fields(carrier);
     let floats = carrier_floats(carrier);
-    insert(room, words, reals, true, 9, &fields, &floats)
+    insert(room, words, reals, true, SURFACES, &fields, &floats)
 }

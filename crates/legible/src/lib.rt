@@ -6,6 +6,7 @@ use model::layout::reals_needed;
 use model::layout::word_at;
 use model::layout::word_stride;
 use model::layout::words_needed;
+use model::names::PRECISION;
 use tested::record_ok;
 ghost use mathlib.Core.Path.{_≡_};
 ghost use Prim.Native.Nat.{_+_, _*_, _<_, _≤_};
@@ -135,5 +136,5 @@ pub fn readable(room: &[usize; 10], words: &[u32], reals: &[f64]) -> bool
     if !sized(room, words, reals) {
         return false;
     }
-    precision_ok(reals[0]) & tables_ok(room, words, reals)
+    precision_ok(reals[PRECISION]) & tables_ok(room, words, reals)
 }

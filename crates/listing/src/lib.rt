@@ -2,6 +2,20 @@
 use legible::readable;
 use model::entries::Entry;
 use model::layout::words_of;
+use model::names::AT_BODY_REGIONS;
+use model::names::AT_EDGE_FINS;
+use model::names::AT_FACE_LOOPS;
+use model::names::AT_LOOP_FINS;
+use model::names::AT_REGION_SHELLS;
+use model::names::AT_SHELL_ACORNS;
+use model::names::AT_SHELL_FACES;
+use model::names::AT_SHELL_WIRES;
+use model::names::BODIES;
+use model::names::EDGES;
+use model::names::FACES;
+use model::names::LOOPS;
+use model::names::REGIONS;
+use model::names::SHELLS;
 ghost use mathlib.Core.Path.{_≡_};
 ghost use Prim.Native.Nat.{_<_, _≤_};
 ghost use Rattle.model.specs.Layout.{word};
@@ -9,9 +23,18 @@ ghost use Rattle.model.specs.Decode.{listAt};
 ghost use Rattle.model.specs.Entries.{listTables, listPlaces, listLimits, listOf, entryRefusal, entryAnswer};
 ghost use Rattle.model.specs.Fit.{Held, Lists};
 
-const TABLES: [usize; 8] = [0, 1, 2, 2, 2, 3, 4, 6];
+const TABLES: [usize; 8] = [BODIES, REGIONS, SHELLS, SHELLS, SHELLS, FACES, LOOPS, EDGES];
 
-const PLACES: [usize; 8] = [1, 2, 1, 514, 771, 7, 1, 7];
+const PLACES: [usize; 8] = [
+    AT_BODY_REGIONS,
+    AT_REGION_SHELLS,
+    AT_SHELL_FACES,
+    AT_SHELL_WIRES,
+    AT_SHELL_ACORNS,
+    AT_FACE_LOOPS,
+    AT_LOOP_FINS,
+    AT_EDGE_FINS,
+];
 
 const LIMITS: [usize; 8] = [16, 16, 512, 256, 64, 16, 1024, 8];
 

@@ -16,6 +16,16 @@ use fetched::loop_at;
 use fetched::region_at;
 use fetched::shell_at;
 use fetched::vertex_at;
+use model::names::BODIES;
+use model::names::CURVES;
+use model::names::EDGES;
+use model::names::FACES;
+use model::names::FINS;
+use model::names::LOOPS;
+use model::names::REGIONS;
+use model::names::SHELLS;
+use model::names::SURFACES;
+use model::names::VERTICES;
 use present::refusal;
 use store::Carrier;
 ghost use mathlib.Core.Path.{_≡_};
@@ -72,7 +82,7 @@ pub enum CarrierFound {
 pub fn body(room: &[usize; 10], words: &[u32], reals: &[f64], id: usize) -> BodyFound
     ensures { λ r. ⌜ r ≡ bodyAnswer (now (room .entry)) (now (words .entry)) (now (reals .entry)) id ⌝ }
 {
-    let number = refusal(room, words, reals, 0, id);
+    let number = refusal(room, words, reals, BODIES, id);
     if number != 0 {
         return BodyFound::Refused(number);
     }
@@ -82,7 +92,7 @@ pub fn body(room: &[usize; 10], words: &[u32], reals: &[f64], id: usize) -> Body
 pub fn region(room: &[usize; 10], words: &[u32], reals: &[f64], id: usize) -> RegionFound
     ensures { λ r. ⌜ r ≡ regionAnswer (now (room .entry)) (now (words .entry)) (now (reals .entry)) id ⌝ }
 {
-    let number = refusal(room, words, reals, 1, id);
+    let number = refusal(room, words, reals, REGIONS, id);
     if number != 0 {
         return RegionFound::Refused(number);
     }
@@ -92,7 +102,7 @@ pub fn region(room: &[usize; 10], words: &[u32], reals: &[f64], id: usize) -> Re
 pub fn shell(room: &[usize; 10], words: &[u32], reals: &[f64], id: usize) -> ShellFound
     ensures { λ r. ⌜ r ≡ shellAnswer (now (room .entry)) (now (words .entry)) (now (reals .entry)) id ⌝ }
 {
-    let number = refusal(room, words, reals, 2, id);
+    let number = refusal(room, words, reals, SHELLS, id);
     if number != 0 {
         return ShellFound::Refused(number);
     }
@@ -102,7 +112,7 @@ pub fn shell(room: &[usize; 10], words: &[u32], reals: &[f64], id: usize) -> She
 pub fn face(room: &[usize; 10], words: &[u32], reals: &[f64], id: usize) -> FaceFound
     ensures { λ r. ⌜ r ≡ faceAnswer (now (room .entry)) (now (words .entry)) (now (reals .entry)) id ⌝ }
 {
-    let number = refusal(room, words, reals, 3, id);
+    let number = refusal(room, words, reals, FACES, id);
     if number != 0 {
         return FaceFound::Refused(number);
     }
@@ -112,7 +122,7 @@ pub fn face(room: &[usize; 10], words: &[u32], reals: &[f64], id: usize) -> Face
 pub fn loop_(room: &[usize; 10], words: &[u32], reals: &[f64], id: usize) -> LoopFound
     ensures { λ r. ⌜ r ≡ loopAnswer (now (room .entry)) (now (words .entry)) (now (reals .entry)) id ⌝ }
 {
-    let number = refusal(room, words, reals, 4, id);
+    let number = refusal(room, words, reals, LOOPS, id);
     if number != 0 {
         return LoopFound::Refused(number);
     }
@@ -122,7 +132,7 @@ pub fn loop_(room: &[usize; 10], words: &[u32], reals: &[f64], id: usize) -> Loo
 pub fn fin(room: &[usize; 10], words: &[u32], reals: &[f64], id: usize) -> FinFound
     ensures { λ r. ⌜ r ≡ finAnswer (now (room .entry)) (now (words .entry)) (now (reals .entry)) id ⌝ }
 {
-    let number = refusal(room, words, reals, 5, id);
+    let number = refusal(room, words, reals, FINS, id);
     if number != 0 {
         return FinFound::Refused(number);
     }
@@ -132,7 +142,7 @@ pub fn fin(room: &[usize; 10], words: &[u32], reals: &[f64], id: usize) -> FinFo
 pub fn edge(room: &[usize; 10], words: &[u32], reals: &[f64], id: usize) -> EdgeFound
     ensures { λ r. ⌜ r ≡ edgeAnswer (now (room .entry)) (now (words .entry)) (now (reals .entry)) id ⌝ }
 {
-    let number = refusal(room, words, reals, 6, id);
+    let number = refusal(room, words, reals, EDGES, id);
     if number != 0 {
         return EdgeFound::Refused(number);
     }
@@ -142,7 +152,7 @@ pub fn edge(room: &[usize; 10], words: &[u32], reals: &[f64], id: usize) -> Edge
 pub fn vertex(room: &[usize; 10], words: &[u32], reals: &[f64], id: usize) -> VertexFound
     ensures { λ r. ⌜ r ≡ vertexAnswer (now (room .entry)) (now (words .entry)) (now (reals .entry)) id ⌝ }
 {
-    let number = refusal(room, words, reals, 7, id);
+    let number = refusal(room, words, reals, VERTICES, id);
     if number != 0 {
         return VertexFound::Refused(number);
     }
@@ -170,11 +180,11 @@ fn carrier_found(
 pub fn curve(room: &[usize; 10], words: &[u32], reals: &[f64], id: usize) -> CarrierFound
     ensures { λ r. ⌜ r ≡ curveAnswer (now (room .entry)) (now (words .entry)) (now (reals .entry)) id ⌝ }
 {
-    carrier_found(room, words, reals, 8, id)
+    carrier_found(room, words, reals, CURVES, id)
 }
 
 pub fn surface(room: &[usize; 10], words: &[u32], reals: &[f64], id: usize) -> CarrierFound
     ensures { λ r. ⌜ r ≡ surfaceAnswer (now (room .entry)) (now (words .entry)) (now (reals .entry)) id ⌝ }
 {
-    carrier_found(room, words, reals, 9, id)
+    carrier_found(room, words, reals, SURFACES, id)
 }

@@ -5,6 +5,8 @@ use fetched::loop_at;
 use fins::fin;
 use fins::fin_geometry;
 use listing::list;
+use model::names::LOOP_FINS;
+use model::names::LOOPS;
 use opens::open_loop;
 use reasons::FACE;
 use reasons::LOOP;
@@ -15,6 +17,7 @@ ghost use mathlib.Core.Path.{_≡_};
 ghost use Prim.Native.Nat.{_≤_, _<_};
 ghost use Rattle.meaning.specs.Lists.{joined};
 ghost use Rattle.meaning.specs.Faults.{finFindings, finGeometry, loopFindings};
+ghost use Rattle.model.specs.Names.{FACES};
 ghost use Rattle.model.specs.Layout.{word};
 ghost use Rattle.model.specs.Decode.{decode};
 ghost use Rattle.model.specs.Fit.{Fit};
@@ -83,7 +86,7 @@ fn loop_geometry(
     fins: &[u32],
 ) -> Tally
     requires { ⌜ Fit (now room) (now words) (now reals) ⌝ }
-    requires { ⌜ (n ≤ 255) × (f < word (now words) 3) ⌝ }
+    requires { ⌜ (n ≤ 255) × (f < word (now words) FACES) ⌝ }
     requires { ⌜ Enough t (joined (finGeometry (decode (now room) (now words) (now reals)) n f) (now fins)) ⌝ }
     ensures { λ r. ⌜ Noted (joined (finGeometry (decode (now (room .entry)) (now (words .entry)) (now (reals .entry))) n f) (now (fins .entry))) (now (nums .entry)) t (now (nums .exit)) r ⌝ }
 {
@@ -106,7 +109,7 @@ fn loop_fins(
     fins: &[u32],
 ) -> Tally
     requires { ⌜ Fit (now room) (now words) (now reals) ⌝ }
-    requires { ⌜ (n ≤ 255) × (f < word (now words) 3) ⌝ }
+    requires { ⌜ (n ≤ 255) × (f < word (now words) FACES) ⌝ }
     requires { ⌜ Enough t (finsFindings (decode (now room) (now words) (now reals)) (options geometry n) f l (now fins)) ⌝ }
     ensures { λ r. ⌜ Noted (finsFindings (decode (now (room .entry)) (now (words .entry)) (now (reals .entry))) (options geometry n) f l (now (fins .entry))) (now (nums .entry)) t (now (nums .exit)) r ⌝ }
 {
@@ -134,15 +137,15 @@ pub fn loop_(
     l: u32,
 ) -> Tally
     requires { ⌜ Fit (now room) (now words) (now reals) ⌝ }
-    requires { ⌜ (n ≤ 255) × (f < word (now words) 3) ⌝ }
+    requires { ⌜ (n ≤ 255) × (f < word (now words) FACES) ⌝ }
     requires { ⌜ Enough t (loopFindings (decode (now room) (now words) (now reals)) (options geometry n) f l) ⌝ }
     ensures { λ r. ⌜ Noted (loopFindings (decode (now (room .entry)) (now (words .entry)) (now (reals .entry))) (options geometry n) f l) (now (nums .entry)) t (now (nums .exit)) r ⌝ }
 {
-    if words[4] <= l {
+    if words[LOOPS] <= l {
         return note(nums, t, 10, FACE, f);
     }
     let owner = loop_at(room, words, l as usize).face;
     let a = note_if(nums, t, owner != f, 11, LOOP, l);
-    let fins = list(room, words, 6, l as usize);
+    let fins = list(room, words, LOOP_FINS, l as usize);
     loop_fins(room, words, reals, nums, a, geometry, n, f, l, fins)
 }

@@ -4,6 +4,9 @@ use entity::records::Sense;
 use fetched::fin_at;
 use listing::list;
 use marks::clear;
+use model::names::EDGE_FINS;
+use model::names::EDGES;
+use model::names::FINS;
 use parts::part;
 use paths::edge_path;
 use reasons::EDGE;
@@ -49,10 +52,10 @@ fn same_senses(room: &[usize; 10], words: &[u32], i: u32, j: u32) -> bool
     requires { ⌜ Lists (now room) (now words) ⌝ }
     ensures { λ r. ⌜ ((x : List Float) → r ≡ bothAlike (decode (now (room .entry)) (now (words .entry)) x) i j) ⌝ }
 {
-    if words[5] <= i {
+    if words[FINS] <= i {
         return false;
     }
-    if words[5] <= j {
+    if words[FINS] <= j {
         return false;
     }
     let one = fin_at(room, words, i as usize);
@@ -95,10 +98,10 @@ fn manifold_edge(
     requires { ⌜ Enough t (manifoldEdge (decode (now room) (now words) (now reals)) e) ⌝ }
     ensures { λ r. ⌜ Noted (manifoldEdge (decode (now (room .entry)) (now (words .entry)) (now (reals .entry))) e) (now (nums .entry)) t (now (nums .exit)) r ⌝ }
 {
-    if words[6] <= e {
+    if words[EDGES] <= e {
         return t;
     }
-    let fins = list(room, words, 7, e as usize);
+    let fins = list(room, words, EDGE_FINS, e as usize);
     manifold_fins(room, words, reals, nums, t, e, fins)
 }
 

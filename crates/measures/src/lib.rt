@@ -13,6 +13,7 @@ ghost use mathlib.Core.Path.{_≡_};
 ghost use mathlib.Core.List.{[], _∷_};
 ghost use lib.ListN.{length, replicate};
 ghost use Rattle.meaning.specs.Faults.{sawing};
+ghost use Rattle.model.specs.Names.{EDGES, VERTICES};
 ghost use Rattle.model.specs.Layout.{word};
 ghost use Rattle.frame.specs.Put.{unlessRefused};
 ghost use Rattle.checker.specs.Calls.{asked, checkNumber, checkWords};
@@ -71,7 +72,7 @@ pub fn split_of(
     value: &mut [u32; 3],
 ) -> u32
     ensures answer { λ r. ⌜ r ≡ lent splitNumber room words reals edge fraction ⌝ }
-    ensures slots { λ r. ⌜ now (value .exit) ≡ unlessRefused r (edge ∷ word (was words) 6 ∷ word (was words) 7 ∷ []) (was value) ⌝ }
+    ensures slots { λ r. ⌜ now (value .exit) ≡ unlessRefused r (edge ∷ word (was words) EDGES ∷ word (was words) VERTICES ∷ []) (was value) ⌝ }
     ensures tables { λ _. ⌜ now (words .exit) ≡ lent splitWords room words reals edge fraction ⌝ }
     ensures floats { λ _. ⌜ now (reals .exit) ≡ lent splitReals room words reals edge fraction ⌝ }
 {

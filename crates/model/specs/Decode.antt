@@ -13,6 +13,7 @@ use Rattle.geometry.specs.declared.tolerance.Tolerance.the-variants.{Own, Sessi
 use Rattle.store.specs.declared.Carrier.{Carrier}
 use Rattle.store.specs.declared.Carrier.the-variants as Carriers
 use Rattle.meaning.specs.Model.{Model, Table, BodyKind, acorn, wire, sheet, solid, general, Sense, positive, negative, Body, Region, Shell, Face, Loop, Fin, Edge, Vertex}
+use Rattle.model.specs.Names.{BODIES, REGIONS, SHELLS, FACES, LOOPS, FINS, EDGES, VERTICES, CURVES, SURFACES, AT-BODY-KIND, AT-BODY-REGIONS, AT-REGION-BODY, AT-REGION-SOLID, AT-REGION-SHELLS, AT-SHELL-REGION, AT-SHELL-FACES, AT-SHELL-WIRES, AT-SHELL-ACORNS, AT-FACE-FRONT, AT-FACE-BACK, AT-FACE-SURFACE, AT-FACE-SENSE, AT-FACE-LOOPS, AT-LOOP-FACE, AT-LOOP-FINS, AT-FIN-LOOP, AT-FIN-EDGE, AT-FIN-SENSE, AT-FIN-PCURVE, AT-EDGE-START, AT-EDGE-END, AT-EDGE-CURVE, AT-EDGE-TOLERANCE, AT-EDGE-FINS, AT-VERTEX-TOLERANCE, AT-CARRIER-TAG, PRECISION, FLOAT-EDGE-TOLERANCE, FLOAT-VERTEX-POINT, FLOAT-VERTEX-TOLERANCE, FLOAT-CARRIER-ORIGIN, FLOAT-CARRIER-DIRECTION}
 use Rattle.model.specs.Layout.{word, real, wordsOf, realsOf}
 
 -- ---- what stands at a place of a record
@@ -52,41 +53,41 @@ vecAt x at = record { x = real x at; y = real x (at + 1); z = real x (at + 2) }
 -- ---- the records
 
 abbrev pub bodyOf : List ℕ → Body
-bodyOf w = record { kind = kindOf (word w 0); regions = listAt w 1 }
+bodyOf w = record { kind = kindOf (word w AT-BODY-KIND); regions = listAt w AT-BODY-REGIONS }
 
 abbrev pub regionOf : List ℕ → Region
-regionOf w = record { body = word w 0; solid = flagAt w 1; shells = listAt w 2 }
+regionOf w = record { body = word w AT-REGION-BODY; solid = flagAt w AT-REGION-SOLID; shells = listAt w AT-REGION-SHELLS }
 
 abbrev pub shellOf : List ℕ → Shell
-shellOf w = record { region = word w 0; faces = listAt w 1; wireEdges = listAt w 514; acornVertices = listAt w 771 }
+shellOf w = record { region = word w AT-SHELL-REGION; faces = listAt w AT-SHELL-FACES; wireEdges = listAt w AT-SHELL-WIRES; acornVertices = listAt w AT-SHELL-ACORNS }
 
 abbrev pub faceOf : List ℕ → Face
-faceOf w = record { front = maybeAt w 0; back = maybeAt w 2; loops = listAt w 7; surface = maybeAt w 4; sense = senseOf (word w 6) }
+faceOf w = record { front = maybeAt w AT-FACE-FRONT; back = maybeAt w AT-FACE-BACK; loops = listAt w AT-FACE-LOOPS; surface = maybeAt w AT-FACE-SURFACE; sense = senseOf (word w AT-FACE-SENSE) }
 
 abbrev pub loopOf : List ℕ → Loop
-loopOf w = record { face = word w 0; fins = listAt w 1 }
+loopOf w = record { face = word w AT-LOOP-FACE; fins = listAt w AT-LOOP-FINS }
 
 abbrev pub finOf : List ℕ → Fin
-finOf w = record { owner = word w 0; edge = word w 1; sense = senseOf (word w 2); pcurve = flagAt w 3 }
+finOf w = record { owner = word w AT-FIN-LOOP; edge = word w AT-FIN-EDGE; sense = senseOf (word w AT-FIN-SENSE); pcurve = flagAt w AT-FIN-PCURVE }
 
 abbrev pub edgeOf : List ℕ → List Float → Edge
 edgeOf w x =
     record {
-      fins = listAt w 7;
-      start = maybeAt w 0;
-      end = maybeAt w 2;
-      curve = maybeAt w 4;
-      tolerance = toleranceOf (word w 6) (real x 0);
+      fins = listAt w AT-EDGE-FINS;
+      start = maybeAt w AT-EDGE-START;
+      end = maybeAt w AT-EDGE-END;
+      curve = maybeAt w AT-EDGE-CURVE;
+      tolerance = toleranceOf (word w AT-EDGE-TOLERANCE) (real x FLOAT-EDGE-TOLERANCE);
     }
 
 abbrev pub vertexOf : List ℕ → List Float → Vertex
-vertexOf w x = record { point = pointAt x 0; tolerance = toleranceOf (word w 0) (real x 3) }
+vertexOf w x = record { point = pointAt x FLOAT-VERTEX-POINT; tolerance = toleranceOf (word w AT-VERTEX-TOLERANCE) (real x FLOAT-VERTEX-TOLERANCE) }
 
 -- a line, a plane or other, by the tag
 abbrev pub carrierOf : List ℕ → List Float → Carrier
 carrierOf w x =
-    cond (eqb (word w 0) 0) (Carriers.Line (record { origin = pointAt x 0; direction = vecAt x 3 }))
-    (cond (eqb (word w 0) 1) (Carriers.Plane (record { origin = pointAt x 0; normal = vecAt x 3 })) Carriers.Other)
+    cond (eqb (word w AT-CARRIER-TAG) 0) (Carriers.Line (record { origin = pointAt x FLOAT-CARRIER-ORIGIN; direction = vecAt x FLOAT-CARRIER-DIRECTION }))
+    (cond (eqb (word w AT-CARRIER-TAG) 1) (Carriers.Plane (record { origin = pointAt x FLOAT-CARRIER-ORIGIN; normal = vecAt x FLOAT-CARRIER-DIRECTION })) Carriers.Other)
 
 -- ---- the model
 
@@ -98,15 +99,15 @@ module _ (room w : List ℕ) (x : List Float) where
   unfoldable pub decode : Model
   decode =
       record {
-        precision = real x 0;
-        bodies = table 0 (λ s _. bodyOf s);
-        regions = table 1 (λ s _. regionOf s);
-        shells = table 2 (λ s _. shellOf s);
-        faces = table 3 (λ s _. faceOf s);
-        loops = table 4 (λ s _. loopOf s);
-        fins = table 5 (λ s _. finOf s);
-        edges = table 6 edgeOf;
-        vertices = table 7 vertexOf;
-        curves = table 8 carrierOf;
-        surfaces = table 9 carrierOf;
+        precision = real x PRECISION;
+        bodies = table BODIES (λ s _. bodyOf s);
+        regions = table REGIONS (λ s _. regionOf s);
+        shells = table SHELLS (λ s _. shellOf s);
+        faces = table FACES (λ s _. faceOf s);
+        loops = table LOOPS (λ s _. loopOf s);
+        fins = table FINS (λ s _. finOf s);
+        edges = table EDGES edgeOf;
+        vertices = table VERTICES vertexOf;
+        curves = table CURVES carrierOf;
+        surfaces = table SURFACES carrierOf;
       }

@@ -7,6 +7,7 @@ use lib.Dec.{ltb}
 use lib.ListN.{length}
 use lib.Ieee.{Float}
 use Rattle.geometry.specs.Refuse.{_unless_, _then_, answer}
+use Rattle.model.specs.Names.{BODIES, REGIONS, SHELLS, FACES, LOOPS, EDGES, AT-BODY-REGIONS, AT-REGION-SHELLS, AT-SHELL-FACES, AT-SHELL-WIRES, AT-SHELL-ACORNS, AT-FACE-LOOPS, AT-LOOP-FINS, AT-EDGE-FINS}
 use Rattle.model.specs.declared.entries.Entry.{Entry}
 use Rattle.model.specs.declared.entries.Entry.the-variants.{Is, Refused}
 use Rattle.model.specs.Layout.{word, wordsOf}
@@ -15,10 +16,10 @@ use Rattle.model.specs.Readable.{readable}
 
 -- the table whose records have the list, where in the record it stands, and how long it may be
 abbrev pub listTables : List ℕ
-listTables = 0 ∷ 1 ∷ 2 ∷ 2 ∷ 2 ∷ 3 ∷ 4 ∷ 6 ∷ []
+listTables = BODIES ∷ REGIONS ∷ SHELLS ∷ SHELLS ∷ SHELLS ∷ FACES ∷ LOOPS ∷ EDGES ∷ []
 
 abbrev pub listPlaces : List ℕ
-listPlaces = 1 ∷ 2 ∷ 1 ∷ 514 ∷ 771 ∷ 7 ∷ 1 ∷ 7 ∷ []
+listPlaces = AT-BODY-REGIONS ∷ AT-REGION-SHELLS ∷ AT-SHELL-FACES ∷ AT-SHELL-WIRES ∷ AT-SHELL-ACORNS ∷ AT-FACE-LOOPS ∷ AT-LOOP-FINS ∷ AT-EDGE-FINS ∷ []
 
 abbrev pub listLimits : List ℕ
 listLimits = 16 ∷ 16 ∷ 512 ∷ 256 ∷ 64 ∷ 16 ∷ 1024 ∷ 8 ∷ []

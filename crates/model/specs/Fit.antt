@@ -6,6 +6,7 @@ use mathlib.Core.List.{List}
 use lib.ListN.{length}
 use lib.Ieee.{Float}
 use Rattle.meaning.specs.Edits.{precisionOk}
+use Rattle.model.specs.Names.{PRECISION}
 use Rattle.model.specs.Layout.{wordStrides, realStrides, largestTables, word, real, wordsNeeded, realsNeeded, wordsOf, realsOf}
 use Rattle.model.specs.Readable.{recordOk}
 use Rattle.model.specs.Entries.{listTables, listPlaces, listLimits}
@@ -46,7 +47,7 @@ pub record Sized (room w : List ℕ) (x : List Float) : Type 0 where
 -- the memory is readable
 pub record Fit (room w : List ℕ) (x : List Float) : Type 0 where
   pub sized : Sized room w x
-  pub precision : precisionOk (real x 0) ≡ true
+  pub precision : precisionOk (real x PRECISION) ≡ true
   pub rows : (k i : ℕ) → k < 10 → i < word w k → recordOk k (wordsOf room w k i) (realsOf room x k i) ≡ true
 
 -- a list that stands whole at a place of a record

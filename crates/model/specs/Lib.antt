@@ -1,3 +1,4 @@
+pub mod Names
 pub mod Layout
 pub mod Decode
 pub mod Readable

@@ -9,41 +9,42 @@ use lib.Ieee.{Float}
 use Rattle.geometry.specs.declared.tolerance.Tolerance.the-variants.{Own}
 use Rattle.meaning.specs.Lists.{allBelow, every}
 use Rattle.meaning.specs.Edits.{toleranceOk, precisionOk}
+use Rattle.model.specs.Names.{AT-BODY-KIND, AT-BODY-REGIONS, AT-REGION-SOLID, AT-REGION-SHELLS, AT-SHELL-FACES, AT-SHELL-WIRES, AT-SHELL-ACORNS, AT-FACE-FRONT, AT-FACE-BACK, AT-FACE-SURFACE, AT-FACE-SENSE, AT-FACE-LOOPS, AT-LOOP-FINS, AT-FIN-SENSE, AT-FIN-PCURVE, AT-EDGE-START, AT-EDGE-END, AT-EDGE-CURVE, AT-EDGE-TOLERANCE, AT-EDGE-FINS, AT-VERTEX-TOLERANCE, AT-CARRIER-TAG, PRECISION, FLOAT-EDGE-TOLERANCE, FLOAT-VERTEX-TOLERANCE}
 use Rattle.model.specs.Layout.{largestTables, word, real, wordsNeeded, realsNeeded, wordsOf, realsOf}
 
 -- ---- a record's tags are known, and its lists within their limits: 01, "Lists: body 16 regions; region 16 shells; shell 512 faces, 256 wire edges,
 -- 64 acorn vertices; face 16 loops; loop 1,024 fins; edge 8 fins"
 
 abbrev pub bodyOk : List ℕ → Bool
-bodyOk w = leb (word w 0) 4 && leb (word w 1) 16
+bodyOk w = leb (word w AT-BODY-KIND) 4 && leb (word w AT-BODY-REGIONS) 16
 
 abbrev pub regionOk : List ℕ → Bool
-regionOk w = leb (word w 1) 1 && leb (word w 2) 16
+regionOk w = leb (word w AT-REGION-SOLID) 1 && leb (word w AT-REGION-SHELLS) 16
 
 abbrev pub shellOk : List ℕ → Bool
-shellOk w = leb (word w 1) 512 && leb (word w 514) 256 && leb (word w 771) 64
+shellOk w = leb (word w AT-SHELL-FACES) 512 && leb (word w AT-SHELL-WIRES) 256 && leb (word w AT-SHELL-ACORNS) 64
 
 abbrev pub faceOk : List ℕ → Bool
-faceOk w = leb (word w 0) 1 && leb (word w 2) 1 && leb (word w 4) 1 && leb (word w 6) 1 && leb (word w 7) 16
+faceOk w = leb (word w AT-FACE-FRONT) 1 && leb (word w AT-FACE-BACK) 1 && leb (word w AT-FACE-SURFACE) 1 && leb (word w AT-FACE-SENSE) 1 && leb (word w AT-FACE-LOOPS) 16
 
 abbrev pub loopOk : List ℕ → Bool
-loopOk w = leb (word w 1) 1024
+loopOk w = leb (word w AT-LOOP-FINS) 1024
 
 abbrev pub finOk : List ℕ → Bool
-finOk w = leb (word w 2) 1 && leb (word w 3) 1
+finOk w = leb (word w AT-FIN-SENSE) 1 && leb (word w AT-FIN-PCURVE) 1
 
 -- an own tolerance is one that an insert would take
 abbrev pub ownOk : ℕ → Float → Bool
 ownOk tag t = eqb tag 0 || toleranceOk (Own t)
 
 abbrev pub edgeOk : List ℕ → List Float → Bool
-edgeOk w x = leb (word w 0) 1 && leb (word w 2) 1 && leb (word w 4) 1 && leb (word w 6) 1 && leb (word w 7) 8 && ownOk (word w 6) (real x 0)
+edgeOk w x = leb (word w AT-EDGE-START) 1 && leb (word w AT-EDGE-END) 1 && leb (word w AT-EDGE-CURVE) 1 && leb (word w AT-EDGE-TOLERANCE) 1 && leb (word w AT-EDGE-FINS) 8 && ownOk (word w AT-EDGE-TOLERANCE) (real x FLOAT-EDGE-TOLERANCE)
 
 abbrev pub vertexOk : List ℕ → List Float → Bool
-vertexOk w x = leb (word w 0) 1 && ownOk (word w 0) (real x 3)
+vertexOk w x = leb (word w AT-VERTEX-TOLERANCE) 1 && ownOk (word w AT-VERTEX-TOLERANCE) (real x FLOAT-VERTEX-TOLERANCE)
 
 abbrev pub carrierOk : List ℕ → Bool
-carrierOk w = leb (word w 0) 2
+carrierOk w = leb (word w AT-CARRIER-TAG) 2
 
 -- by table
 abbrev pub recordTests : List (List ℕ → List Float → Bool)
@@ -89,4 +90,4 @@ unfoldable pub sizedOk : List ℕ → List ℕ → List Float → Bool
 sizedOk room w x = lentOk room w x && countsOk room w
 
 unfoldable pub readable : List ℕ → List ℕ → List Float → Bool
-readable room w x = sizedOk room w x && precisionOk (real x 0) && tablesOk room w x
+readable room w x = sizedOk room w x && precisionOk (real x PRECISION) && tablesOk room w x

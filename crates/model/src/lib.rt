@@ -2,3 +2,4 @@
 // the memory holds, `specs/Readable.antt` what refusal 9 tests.
 pub mod entries;
 pub mod layout;
+pub mod names;

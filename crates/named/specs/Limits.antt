@@ -7,6 +7,7 @@ use lib.Dec.{leb}
 use lib.Ieee.{Float}
 use Rattle.meaning.specs.Lists.{run}
 use Rattle.meaning.specs.Model.{Limits, largest}
+use Rattle.model.specs.Names.{BODIES, REGIONS, SHELLS, FACES, LOOPS, EDGES, AT-BODY-KIND, AT-BODY-REGIONS, AT-REGION-SOLID, AT-REGION-SHELLS, AT-SHELL-FACES, AT-SHELL-WIRES, AT-SHELL-ACORNS, AT-FACE-FRONT, AT-FACE-BACK, AT-FACE-SURFACE, AT-FACE-SENSE, AT-FACE-LOOPS, AT-LOOP-FINS, AT-EDGE-START, AT-EDGE-END, AT-EDGE-CURVE, AT-EDGE-TOLERANCE, AT-EDGE-FINS, FLOAT-EDGE-TOLERANCE}
 use Rattle.model.specs.Layout.{largestTables, word, real}
 use Rattle.model.specs.Readable.{ownOk, recordOk}
 use Rattle.model.specs.Entries.{listLimits}
@@ -37,27 +38,27 @@ split-lists-are room = refl
 
 -- the lists that refusal 9 allows, beside the tags of their records
 module _ (w : List ℕ) (x : List Float) where
-  pub body-test : recordOk 0 w x ≡ (leb (word w 0) 4 && leb (word w 1) (largest .bodyRegions))
+  pub body-test : recordOk BODIES w x ≡ (leb (word w AT-BODY-KIND) 4 && leb (word w AT-BODY-REGIONS) (largest .bodyRegions))
   unfolding recordOk
   body-test = refl
 
-  pub region-test : recordOk 1 w x ≡ (leb (word w 1) 1 && leb (word w 2) (largest .regionShells))
+  pub region-test : recordOk REGIONS w x ≡ (leb (word w AT-REGION-SOLID) 1 && leb (word w AT-REGION-SHELLS) (largest .regionShells))
   unfolding recordOk
   region-test = refl
 
-  pub shell-test : recordOk 2 w x ≡ (leb (word w 1) (largest .shellFaces) && leb (word w 514) (largest .shellWireEdges) && leb (word w 771) (largest .shellAcornVertices))
+  pub shell-test : recordOk SHELLS w x ≡ (leb (word w AT-SHELL-FACES) (largest .shellFaces) && leb (word w AT-SHELL-WIRES) (largest .shellWireEdges) && leb (word w AT-SHELL-ACORNS) (largest .shellAcornVertices))
   unfolding recordOk
   shell-test = refl
 
-  pub face-test : recordOk 3 w x ≡ (leb (word w 0) 1 && leb (word w 2) 1 && leb (word w 4) 1 && leb (word w 6) 1 && leb (word w 7) (largest .faceLoops))
+  pub face-test : recordOk FACES w x ≡ (leb (word w AT-FACE-FRONT) 1 && leb (word w AT-FACE-BACK) 1 && leb (word w AT-FACE-SURFACE) 1 && leb (word w AT-FACE-SENSE) 1 && leb (word w AT-FACE-LOOPS) (largest .faceLoops))
   unfolding recordOk
   face-test = refl
 
-  pub loop-test : recordOk 4 w x ≡ leb (word w 1) (largest .loopFins)
+  pub loop-test : recordOk LOOPS w x ≡ leb (word w AT-LOOP-FINS) (largest .loopFins)
   unfolding recordOk
   loop-test = refl
 
-  pub edge-test : recordOk 6 w x
-      ≡ (leb (word w 0) 1 && leb (word w 2) 1 && leb (word w 4) 1 && leb (word w 6) 1 && leb (word w 7) (largest .edgeFins) && ownOk (word w 6) (real x 0))
+  pub edge-test : recordOk EDGES w x
+      ≡ (leb (word w AT-EDGE-START) 1 && leb (word w AT-EDGE-END) 1 && leb (word w AT-EDGE-CURVE) 1 && leb (word w AT-EDGE-TOLERANCE) 1 && leb (word w AT-EDGE-FINS) (largest .edgeFins) && ownOk (word w AT-EDGE-TOLERANCE) (real x FLOAT-EDGE-TOLERANCE))
   unfolding recordOk
   edge-test = refl

@@ -15,6 +15,7 @@ use Rattle.meaning.specs.Inquire.{boxOf, boxRefusal, bodyBoundingBox, solidSide
 use Rattle.meaning.specs.Split as Split
 use Rattle.meaning.specs.Split.{lo, hi, boundsRefusal, edgeParameterBounds, splitRefusal, splitLineEdge}
 use Rattle.meaning.specs.Faults.{CheckOptions, reportOf, findings, checkRefusal, checkBody, kept, counts, sawing, isValid, sawable, fitToSaw}
+use Rattle.model.specs.Names.{FACES, EDGES, VERTICES}
 use Rattle.model.specs.Decode.{decode}
 use Rattle.model.specs.Readable.{readable}
 use Rattle.entity.specs.Seen.{seenBody, seenRegion, seenShell, seenFace, seenLoop, seenFin, seenEdge, seenVertex}
@@ -120,27 +121,27 @@ module _ (room w : List ℕ) (x : List Float) where
     -- ---- the walks: the number, and the list handed back
 
     pub faces-are : (faceMarks out : List ℕ)
-        → Walked (within (length out) (9 unless readable room w x then 8 unless reach room 3 faceMarks else bodyFaces (decode room w x) b))
+        → Walked (within (length out) (9 unless readable room w x then 8 unless reach room FACES faceMarks else bodyFaces (decode room w x) b))
         (facesNumber room w x b faceMarks out) (facesHanded room w x b faceMarks out)
     unfolding facesNumber facesHanded
     faces-are faceMarks out =
-        behind-walk (faceWalk (decode room w x) b) (9 unless readable room w x) (8 unless reach room 3 faceMarks) (facesRefusal (decode room w x) b) (length out)
+        behind-walk (faceWalk (decode room w x) b) (9 unless readable room w x) (8 unless reach room FACES faceMarks) (facesRefusal (decode room w x) b) (length out)
 
     pub edges-are : (faceMarks edgeMarks out : List ℕ)
-        → Walked (within (length out) (9 unless readable room w x then 8 unless reach room 3 faceMarks && reach room 6 edgeMarks else bodyEdges (decode room w x) b))
+        → Walked (within (length out) (9 unless readable room w x then 8 unless reach room FACES faceMarks && reach room EDGES edgeMarks else bodyEdges (decode room w x) b))
         (edgesNumber room w x b faceMarks edgeMarks out) (edgesHanded room w x b faceMarks edgeMarks out)
     unfolding edgesNumber edgesHanded
     edges-are faceMarks edgeMarks out =
-        behind-walk (edgeWalk (decode room w x) b) (9 unless readable room w x) (8 unless reach room 3 faceMarks && reach room 6 edgeMarks) (edgesRefusal (decode room w x) b) (length out)
+        behind-walk (edgeWalk (decode room w x) b) (9 unless readable room w x) (8 unless reach room FACES faceMarks && reach room EDGES edgeMarks) (edgesRefusal (decode room w x) b) (length out)
 
     pub vertices-are : (faceMarks edgeMarks vertexMarks out : List ℕ)
         → Walked
         (within (length out)
-        (9 unless readable room w x then 8 unless reach room 3 faceMarks && reach room 6 edgeMarks && reach room 7 vertexMarks else bodyVertices (decode room w x) b))
+        (9 unless readable room w x then 8 unless reach room FACES faceMarks && reach room EDGES edgeMarks && reach room VERTICES vertexMarks else bodyVertices (decode room w x) b))
         (verticesNumber room w x b faceMarks edgeMarks vertexMarks out) (verticesHanded room w x b faceMarks edgeMarks vertexMarks out)
     unfolding verticesNumber verticesHanded
     vertices-are faceMarks edgeMarks vertexMarks out =
-        behind-walk (vertexWalk (decode room w x) b) (9 unless readable room w x) (8 unless reach room 3 faceMarks && reach room 6 edgeMarks && reach room 7 vertexMarks)
+        behind-walk (vertexWalk (decode room w x) b) (9 unless readable room w x) (8 unless reach room FACES faceMarks && reach room EDGES edgeMarks && reach room VERTICES vertexMarks)
         (verticesRefusal (decode room w x) b) (length out)
 
     -- ---- box and volume
@@ -148,20 +149,20 @@ module _ (room w : List ℕ) (x : List Float) where
     pub box-is : (faceMarks edgeMarks vertexMarks : List ℕ)
         → boxAnswer room w x b faceMarks edgeMarks vertexMarks
         ≡ shown (λ a. Boxes.Is (seenBox a)) Boxes.Refused
-        (9 unless readable room w x then 8 unless reach room 3 faceMarks && reach room 6 edgeMarks && reach room 7 vertexMarks else bodyBoundingBox (decode room w x) b)
+        (9 unless readable room w x then 8 unless reach room FACES faceMarks && reach room EDGES edgeMarks && reach room VERTICES vertexMarks else bodyBoundingBox (decode room w x) b)
     unfolding boxAnswer boxNumber
     box-is faceMarks edgeMarks vertexMarks =
         let m = decode room w x in
-        behind-two Boxes.Is Boxes.Refused seenBox (9 unless readable room w x) (8 unless reach room 3 faceMarks && reach room 6 edgeMarks && reach room 7 vertexMarks) (boxRefusal m b)
+        behind-two Boxes.Is Boxes.Refused seenBox (9 unless readable room w x) (8 unless reach room FACES faceMarks && reach room EDGES edgeMarks && reach room VERTICES vertexMarks) (boxRefusal m b)
         (boxOf (map (pointOf m) (vertexWalk m b)))
 
     pub volume-is : (faceMarks : List ℕ)
         → volumeAnswer room w x b faceMarks
-        ≡ shown Volumes.Is Volumes.Refused (9 unless readable room w x then 8 unless reach room 3 faceMarks else bodyVolume (decode room w x) b)
+        ≡ shown Volumes.Is Volumes.Refused (9 unless readable room w x then 8 unless reach room FACES faceMarks else bodyVolume (decode room w x) b)
     unfolding volumeAnswer volumeNumber
     volume-is faceMarks =
         let m = decode room w x in
-        behind-two Volumes.Is Volumes.Refused (λ v. v) (9 unless readable room w x) (8 unless reach room 3 faceMarks) (volumeRefusal m b) (sumVolumes m zeroF (solidSides m b))
+        behind-two Volumes.Is Volumes.Refused (λ v. v) (9 unless readable room w x) (8 unless reach room FACES faceMarks) (volumeRefusal m b) (sumVolumes m zeroF (solidSides m b))
 
     module _ (faceMarks edgeMarks : List ℕ) where
       -- ---- `check_body`: its answer, and its list of faults
@@ -169,39 +170,39 @@ module _ (room w : List ℕ) (x : List Float) where
       pub check-is : (o : CheckOptions) (nums : List ℕ)
           → checkAnswer room w x b o faceMarks edgeMarks nums
           ≡ shown (λ r. Checks.Is (seenCounts (counts (length nums / 4) r))) Checks.Refused
-          (9 unless readable room w x then 8 unless reach room 3 faceMarks && reach room 6 edgeMarks else checkBody (decode room w x) o b)
+          (9 unless readable room w x then 8 unless reach room FACES faceMarks && reach room EDGES edgeMarks else checkBody (decode room w x) o b)
       unfolding checkAnswer checkNumber reportOn
       check-is o nums =
-          behind-two Checks.Is Checks.Refused (λ r. seenCounts (counts (length nums / 4) r)) (9 unless readable room w x) (8 unless reach room 3 faceMarks && reach room 6 edgeMarks)
+          behind-two Checks.Is Checks.Refused (λ r. seenCounts (counts (length nums / 4) r)) (9 unless readable room w x) (8 unless reach room FACES faceMarks && reach room EDGES edgeMarks)
           (checkRefusal (decode room w x) o b) (reportOf (findings (decode room w x) o b))
 
       pub faults-are : (o : CheckOptions) (nums : List ℕ)
           → checkWords room w x b o faceMarks edgeMarks nums
           ≡ inFront (shown (λ r. faultsWords (kept (length nums / 4) r)) (λ _. [])
-          (9 unless readable room w x then 8 unless reach room 3 faceMarks && reach room 6 edgeMarks else checkBody (decode room w x) o b)) nums
+          (9 unless readable room w x then 8 unless reach room FACES faceMarks && reach room EDGES edgeMarks else checkBody (decode room w x) o b)) nums
       unfolding checkWords checkNumber reportOn
       faults-are o nums =
           let r = reportOf (findings (decode room w x) o b) in
           ap (λ l. inFront l nums)
           (handed-answer
-          (9 unless readable room w x then 8 unless reach room 3 faceMarks && reach room 6 edgeMarks then checkRefusal (decode room w x) o b)
+          (9 unless readable room w x then 8 unless reach room FACES faceMarks && reach room EDGES edgeMarks then checkRefusal (decode room w x) o b)
           (faultsWords (kept (length nums / 4) r))
-          ∙ behind-two (λ l. l) (λ _. []) (λ r. faultsWords (kept (length nums / 4) r)) (9 unless readable room w x) (8 unless reach room 3 faceMarks && reach room 6 edgeMarks)
+          ∙ behind-two (λ l. l) (λ _. []) (λ r. faultsWords (kept (length nums / 4) r)) (9 unless readable room w x) (8 unless reach room FACES faceMarks && reach room EDGES edgeMarks)
           (checkRefusal (decode room w x) o b) r)
 
       -- ---- fit to saw, and that it is a report with geometry on, three samples, no fault and `unchecked` 0
 
       pub fit-is : fitAnswer room w x b faceMarks edgeMarks
-          ≡ shown Saws.Is Saws.Refused (9 unless readable room w x then 8 unless reach room 3 faceMarks && reach room 6 edgeMarks else fitToSaw (decode room w x) b)
+          ≡ shown Saws.Is Saws.Refused (9 unless readable room w x then 8 unless reach room FACES faceMarks && reach room EDGES edgeMarks else fitToSaw (decode room w x) b)
       unfolding fitAnswer checkNumber
       fit-is =
-          behind-two Saws.Is Saws.Refused (λ v. v) (9 unless readable room w x) (8 unless reach room 3 faceMarks && reach room 6 edgeMarks) (checkRefusal (decode room w x) sawing b)
+          behind-two Saws.Is Saws.Refused (λ v. v) (9 unless readable room w x) (8 unless reach room FACES faceMarks && reach room EDGES edgeMarks) (checkRefusal (decode room w x) sawing b)
           (sawable (decode room w x) b)
 
       pub fit-by-report : fitAnswer room w x b faceMarks edgeMarks
           ≡ shown (λ r. Saws.Is (isValid r)) Saws.Refused
-          (9 unless readable room w x then 8 unless reach room 3 faceMarks && reach room 6 edgeMarks else checkBody (decode room w x) (asked true 3) b)
+          (9 unless readable room w x then 8 unless reach room FACES faceMarks && reach room EDGES edgeMarks else checkBody (decode room w x) (asked true 3) b)
       unfolding fitAnswer checkNumber sawable
       fit-by-report =
-          behind-two Saws.Is Saws.Refused isValid (9 unless readable room w x) (8 unless reach room 3 faceMarks && reach room 6 edgeMarks) (checkRefusal (decode room w x) sawing b)
+          behind-two Saws.Is Saws.Refused isValid (9 unless readable room w x) (8 unless reach room FACES faceMarks && reach room EDGES edgeMarks) (checkRefusal (decode room w x) sawing b)
           (reportOf (findings (decode room w x) sawing b))

@@ -12,6 +12,7 @@ use Rattle.meaning.specs.Edits.{toleranceOk}
 use Rattle.meaning.specs.Model.{edge, vertex}
 use Rattle.meaning.specs.Formed.{Readable}
 use Rattle.lists.specs.Tests.{and-both}
+use Rattle.model.specs.Names.{EDGES, VERTICES, FLOAT-EDGE-TOLERANCE, FLOAT-VERTEX-TOLERANCE}
 use Rattle.model.specs.Layout.{word, real, wordsOf, realsOf}
 use Rattle.model.specs.Decode.{decode}
 use Rattle.model.specs.Readable.{ownOk, recordOk, readable}
@@ -25,20 +26,20 @@ own-or-none true t h = refl
 own-or-none false t h = h
 
 module _ (room w : List ℕ) (x : List Float) where
-  tolerance-of-edge : Fit room w x → (i : ℕ) → i < word w 6 → toleranceOk (edge (decode room w x) i .tolerance) ≡ true
+  tolerance-of-edge : Fit room w x → (i : ℕ) → i < word w EDGES → toleranceOk (edge (decode room w x) i .tolerance) ≡ true
   unfolding recordOk decode
   tolerance-of-edge f i h =
-      let s = wordsOf room w 6 i in
-      own-or-none (eqb (word s 6) 0) (real (realsOf room x 6 i) 0)
-      (and-both (leb (word s 0) 1 && leb (word s 2) 1 && leb (word s 4) 1 && leb (word s 6) 1 && leb (word s 7) 8) (ownOk (word s 6) (real (realsOf room x 6 i) 0))
+      let s = wordsOf room w EDGES i in
+      own-or-none (eqb (word s 6) 0) (real (realsOf room x EDGES i) FLOAT-EDGE-TOLERANCE)
+      (and-both (leb (word s 0) 1 && leb (word s 2) 1 && leb (word s 4) 1 && leb (word s 6) 1 && leb (word s 7) 8) (ownOk (word s 6) (real (realsOf room x EDGES i) FLOAT-EDGE-TOLERANCE))
       (f .rows 6 i (omega arith) h) .1)
 
-  tolerance-of-vertex : Fit room w x → (i : ℕ) → i < word w 7 → toleranceOk (vertex (decode room w x) i .tolerance) ≡ true
+  tolerance-of-vertex : Fit room w x → (i : ℕ) → i < word w VERTICES → toleranceOk (vertex (decode room w x) i .tolerance) ≡ true
   unfolding recordOk decode
   tolerance-of-vertex f i h =
-      let s = wordsOf room w 7 i in
-      own-or-none (eqb (word s 0) 0) (real (realsOf room x 7 i) 3)
-      (and-both (leb (word s 0) 1) (ownOk (word s 0) (real (realsOf room x 7 i) 3)) (f .rows 7 i (omega arith) h) .1)
+      let s = wordsOf room w VERTICES i in
+      own-or-none (eqb (word s 0) 0) (real (realsOf room x VERTICES i) FLOAT-VERTEX-TOLERANCE)
+      (and-both (leb (word s 0) 1) (ownOk (word s 0) (real (realsOf room x VERTICES i) FLOAT-VERTEX-TOLERANCE)) (f .rows 7 i (omega arith) h) .1)
 
   -- a memory that is not refused with 9 holds a model within the lent capacities and 01's lists, whose precision and tolerances an insert would take
   pub tables-readable : readable room w x ≡ true → Readable (limits room) (decode room w x)

@@ -4,6 +4,8 @@ use entity::records::Sense;
 use fetched::edge_at;
 use fetched::fin_at;
 use likened::refs::same_ref;
+use model::names::EDGES;
+use model::names::FINS;
 use reasons::FIN;
 use reasons::Tally;
 use reasons::note_if;
@@ -32,10 +34,10 @@ fn readable_fin(room: &[usize; 10], words: &[u32], i: u32) -> bool
     requires { ⌜ Lists (now room) (now words) ⌝ }
     ensures { λ r. ⌜ ((x : List Float) → r ≡ readableFin (decode (now (room .entry)) (now (words .entry)) x) i) ⌝ }
 {
-    if words[5] <= i {
+    if words[FINS] <= i {
         return false;
     }
-    fin_at(room, words, i as usize).edge < words[6]
+    fin_at(room, words, i as usize).edge < words[EDGES]
 }
 
 // The ends of an edge, in a fin's direction.

@@ -7,6 +7,7 @@ use lib.ListN.{length}
 use lib.Ieee.{Float}
 use Rattle.meaning.specs.Model.{Model, Table}
 use Rattle.meaning.specs.Split.{splitRefusal, afterSplit, whereAccepted, modelAfter}
+use Rattle.model.specs.Names.{SHELLS, LOOPS, EDGES, EDGE-FINS, AT-SHELL-WIRES, AT-LOOP-FINS, AT-EDGE-FINS}
 use Rattle.model.specs.Layout.{word, wordsOf, realsOf}
 use Rattle.model.specs.Decode.{decode}
 use Rattle.model.specs.Readable.{readable}
@@ -27,9 +28,9 @@ pub record HoldsModel (room w′ : List ℕ) (x′ : List Float) (m : Model) : T
 
 -- behind the split, the words w′ hold what w held at every place of a list behind its last entry: the loops', the shells' wire edges, and those of the new edge, which has n fins
 pub record PlacesStay (room w w′ : List ℕ) (n : ℕ) : Type 0 where
-  pub loops : (i q : ℕ) → i < word w 4 → 1 + word (wordsOf room w′ 4 i) 1 < q → word (wordsOf room w′ 4 i) q ≡ word (wordsOf room w 4 i) q
-  pub wires : (i q : ℕ) → i < word w 2 → 514 + word (wordsOf room w′ 2 i) 514 < q → word (wordsOf room w′ 2 i) q ≡ word (wordsOf room w 2 i) q
-  pub new-edge : (q : ℕ) → 7 + n < q → word (wordsOf room w′ 6 (word w 6)) q ≡ word (wordsOf room w 6 (word w 6)) q
+  pub loops : (i q : ℕ) → i < word w LOOPS → AT-LOOP-FINS + word (wordsOf room w′ LOOPS i) AT-LOOP-FINS < q → word (wordsOf room w′ LOOPS i) q ≡ word (wordsOf room w LOOPS i) q
+  pub wires : (i q : ℕ) → i < word w SHELLS → AT-SHELL-WIRES + word (wordsOf room w′ SHELLS i) AT-SHELL-WIRES < q → word (wordsOf room w′ SHELLS i) q ≡ word (wordsOf room w SHELLS i) q
+  pub new-edge : (q : ℕ) → AT-EDGE-FINS + n < q → word (wordsOf room w′ EDGES (word w EDGES)) q ≡ word (wordsOf room w EDGES (word w EDGES)) q
 
 same-table : {A : Type 0} (t : Table A) → SameTable t t
 same-table t = record { used = refl; slots = λ i h. refl }
@@ -65,7 +66,7 @@ module _ (room w : List ℕ) (x : List Float) (e : ℕ) (t : Float) where
   unused-slots-stay z = let a = accepted room w x e t z in rw z (λ k i h u g. (slot-words room w x e t a k i h u g, slot-floats room w x e t a k i h u g))
 
   -- and so do places of lists
-  pub unused-places-stay : splitNumber room w x e t ≡ 0 → PlacesStay room w (splitWords room w x e t) (length (listOf room w 7 e))
+  pub unused-places-stay : splitNumber room w x e t ≡ 0 → PlacesStay room w (splitWords room w x e t) (length (listOf room w EDGE-FINS e))
   unfolding splitWords
   unused-places-stay z =
       let a = accepted room w x e t z in

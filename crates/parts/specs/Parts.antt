@@ -6,6 +6,7 @@ use mathlib.Core.List.{List, [], _∷_, _++_, map}
 use lib.Dec.{eqb, ltb}
 use lib.ListN.{length}
 use Rattle.meaning.specs.Lists.{all, listed}
+use Rattle.model.specs.Names.{REGIONS, SHELLS, FACES, LOOPS, FINS, EDGES, VERTICES, LOOP-FINS, EDGE-FINS, AT-FIN-EDGE, AT-EDGE-START, AT-EDGE-START-ID, AT-EDGE-END, AT-EDGE-END-ID}
 use Rattle.model.specs.Layout.{word, wordsOf}
 use Rattle.model.specs.Decode.{maybeAt}
 use Rattle.model.specs.Entries.{listTables, listOf}
@@ -13,24 +14,24 @@ use Rattle.marks.specs.Marks.{puts}
 
 -- the table that a list's entries are of
 abbrev pub entryTables : List ℕ
-entryTables = 1 ∷ 2 ∷ 3 ∷ 6 ∷ 7 ∷ 4 ∷ 5 ∷ 5 ∷ []
+entryTables = REGIONS ∷ SHELLS ∷ FACES ∷ EDGES ∷ VERTICES ∷ LOOPS ∷ FINS ∷ FINS ∷ []
 
 -- the edge that a fin names
 abbrev pub finEdge : List ℕ → List ℕ → ℕ → ℕ
-finEdge room w i = word (wordsOf room w 5 i) 1
+finEdge room w i = word (wordsOf room w FINS i) AT-FIN-EDGE
 
 -- an end by its tag, and the ends in an edge's words
 abbrev pub endOf : ℕ → ℕ → List ℕ
 endOf tag x = cond (eqb tag 0) [] (x ∷ [])
 
 abbrev pub endsIn : List ℕ → List ℕ
-endsIn s = endOf (word s 0) (word s 1) ++ endOf (word s 2) (word s 3)
+endsIn s = endOf (word s AT-EDGE-START) (word s AT-EDGE-START-ID) ++ endOf (word s AT-EDGE-END) (word s AT-EDGE-END-ID)
 
 -- the ids of list j of record i: the edges for a loop's fins, the ends for an edge's
 unfoldable pub partIn : List ℕ → List ℕ → ℕ → ℕ → List ℕ
 partIn room w j i =
-    cond (eqb j 7) (endsIn (wordsOf room w 6 i))
-    (cond (eqb j 6) (map (finEdge room w) (listOf room w 6 i)) (listOf room w j i))
+    cond (eqb j EDGE-FINS) (endsIn (wordsOf room w EDGES i))
+    (cond (eqb j LOOP-FINS) (map (finEdge room w) (listOf room w LOOP-FINS i)) (listOf room w j i))
 
 unfoldable pub partOf : List ℕ → List ℕ → ℕ → List ℕ
 partOf room w source = partIn room w (source % 8) (source / 8)
@@ -46,7 +47,7 @@ followed room w j i = ltb i (word w (word listTables j)) && all (λ x. ltb x (wo
 -- the source's record exists, and so do a loop's fins
 pub record Source (room w : List ℕ) (source : ℕ) : Type 0 where
   pub slot : source / 8 < word w (word listTables (source % 8))
-  pub fins : source % 8 ≡ 6 → all (λ x. ltb x (word w 5)) (listOf room w 6 (source / 8)) ≡ true
+  pub fins : source % 8 ≡ LOOP-FINS → all (λ x. ltb x (word w FINS)) (listOf room w LOOP-FINS (source / 8)) ≡ true
 
 pub record Sources (room w path : List ℕ) : Type 0 where
   pub at : (p : ℕ) → p < length path → Source room w (word path p)

@@ -6,6 +6,21 @@ use marks::all_below;
 use marks::put;
 use marks::put_all;
 use model::layout::words_of;
+use model::names::AT_EDGE_END;
+use model::names::AT_EDGE_END_ID;
+use model::names::AT_EDGE_START;
+use model::names::AT_EDGE_START_ID;
+use model::names::AT_FIN_EDGE;
+use model::names::BODIES;
+use model::names::EDGE_FINS;
+use model::names::EDGES;
+use model::names::FACES;
+use model::names::FINS;
+use model::names::LOOP_FINS;
+use model::names::LOOPS;
+use model::names::REGIONS;
+use model::names::SHELLS;
+use model::names::VERTICES;
 ghost use mathlib.Core.Path.{_≡_};
 ghost use mathlib.Core.Bool.{true};
 ghost use mathlib.Core.List.{map};
@@ -13,6 +28,7 @@ ghost use Prim.Native.Nat.{_+_, _*_, _<_, _≤_};
 ghost use lib.Dec.{ltb};
 ghost use lib.ListN.{length};
 ghost use Rattle.meaning.specs.Lists.{all, joined, listed};
+ghost use Rattle.model.specs.Names.{FINS};
 ghost use Rattle.model.specs.Layout.{word};
 ghost use Rattle.model.specs.Entries.{listOf};
 ghost use Rattle.model.specs.Fit.{Lists};
@@ -20,20 +36,20 @@ ghost use Rattle.marks.specs.Marks.{puts};
 ghost use Rattle.parts.specs.Parts.{finEdge, endOf, endsIn, partOf, sourced, followed, Source, Took};
 
 // The table whose records have the list, and the table that its entries are of.
-const TABLES: [usize; 8] = [0, 1, 2, 2, 2, 3, 4, 6];
+const TABLES: [usize; 8] = [BODIES, REGIONS, SHELLS, SHELLS, SHELLS, FACES, LOOPS, EDGES];
 
-const ENTRIES: [usize; 8] = [1, 2, 3, 6, 7, 4, 5, 5];
+const ENTRIES: [usize; 8] = [REGIONS, SHELLS, FACES, EDGES, VERTICES, LOOPS, FINS, FINS];
 
 // The edges that the fins name, in order.
 fn fin_edges(room: &[usize; 10], words: &[u32], fins: &[u32], buf: &mut [u32])
     requires { ⌜ Lists (now room) (now words) ⌝ }
-    requires { ⌜ all (λ x. ltb x (word (now words) 5)) (now fins) ≡ true ⌝ }
+    requires { ⌜ all (λ x. ltb x (word (now words) FINS)) (now fins) ≡ true ⌝ }
     ensures { λ _. ⌜ now (buf .exit) ≡ puts (now (buf .entry)) 0 (map (finEdge (now (room .entry)) (now (words .entry))) (now (fins .entry))) ⌝ }
 {
     let mut k = 0;
     while k < fins.len() {
-        let fin = words_of(room, words, 5, fins[k] as usize);
-        put(buf, k, fin[1]);
+        let fin = words_of(room, words, FINS, fins[k] as usize);
+        put(buf, k, fin[AT_FIN_EDGE]);
         k += 1;
     }
 }
@@ -55,8 +71,8 @@ fn ends(edge: &[u32], buf: &mut [u32]) -> usize
     requires { ⌜ length (now edge) ≡ 16 ⌝ }
     ensures { λ r. ⌜ Took (endsIn (now (edge .entry))) (now (buf .entry)) (now (buf .exit)) r ⌝ }
 {
-    let n = put_end(buf, 0, edge[0], edge[1]);
-    put_end(buf, n, edge[2], edge[3])
+    let n = put_end(buf, 0, edge[AT_EDGE_START], edge[AT_EDGE_START_ID]);
+    put_end(buf, n, edge[AT_EDGE_END], edge[AT_EDGE_END_ID])
 }
 
 // Puts a source's part into the front of the buffer and returns how many ids it has.
@@ -67,11 +83,11 @@ pub fn part(room: &[usize; 10], words: &[u32], source: u32, buf: &mut [u32]) -> 
 {
     let j = (source % 8) as usize;
     let i = (source / 8) as usize;
-    if j == 7 {
-        return ends(words_of(room, words, 6, i), buf);
+    if j == EDGE_FINS {
+        return ends(words_of(room, words, EDGES, i), buf);
     }
     let ids = list(room, words, j, i);
-    if j == 6 {
+    if j == LOOP_FINS {
         fin_edges(room, words, ids, buf);
         return ids.len();
     }

@@ -6,6 +6,7 @@ use mathlib.Core.List.{List, _++_}
 use lib.Dec.{ltb}
 use lib.ListN.{length}
 use Rattle.meaning.specs.Lists.{all, joined, firsts}
+use Rattle.model.specs.Names.{BODIES, FACES, EDGES, BODY-REGIONS, REGION-SHELLS, SHELL-FACES, SHELL-WIRES, SHELL-ACORNS, FACE-LOOPS, LOOP-FINS, EDGE-FINS}
 use Rattle.model.specs.Layout.{word}
 use Rattle.model.specs.Entries.{listOf}
 use Rattle.marks.specs.Marks.{puts}
@@ -14,58 +15,58 @@ use Rattle.visits.specs.Visits.{idsOf}
 
 module _ (room w : List ℕ) (b : ℕ) where
   unfoldable pub shellList : List ℕ
-  shellList = joined (listOf room w 1) (listOf room w 0 b)
+  shellList = joined (listOf room w REGION-SHELLS) (listOf room w BODY-REGIONS b)
 
   -- the faces walk goes by the shells' faces
   unfoldable pub facePath : List ℕ
-  facePath = sourced 2 shellList
+  facePath = sourced SHELL-FACES shellList
 
   unfoldable pub faceList : List ℕ
   faceList = firsts (idsOf room w facePath)
 
   -- the edges walk by the fins of the faces' loops, then by the shells' wire edges
   unfoldable pub loopList : List ℕ
-  loopList = joined (listOf room w 5) faceList
+  loopList = joined (listOf room w FACE-LOOPS) faceList
 
   unfoldable pub edgePath : List ℕ
-  edgePath = sourced 6 loopList ++ sourced 3 shellList
+  edgePath = sourced LOOP-FINS loopList ++ sourced SHELL-WIRES shellList
 
   unfoldable pub edgeList : List ℕ
   edgeList = firsts (idsOf room w edgePath)
 
   -- the vertices walk by the edges' ends, then by the shells' acorn vertices
   unfoldable pub vertexPath : List ℕ
-  vertexPath = sourced 7 edgeList ++ sourced 4 shellList
+  vertexPath = sourced EDGE-FINS edgeList ++ sourced SHELL-ACORNS shellList
 
   -- ---- what is followed
 
   unfoldable pub bodyFollowed : Bool
-  bodyFollowed = ltb b (word w 0) && all (followed room w 1) (listOf room w 0 b)
+  bodyFollowed = ltb b (word w BODIES) && all (followed room w REGION-SHELLS) (listOf room w BODY-REGIONS b)
 
   unfoldable pub facesThere : Bool
-  facesThere = all (λ f. ltb f (word w 3)) (idsOf room w facePath)
+  facesThere = all (λ f. ltb f (word w FACES)) (idsOf room w facePath)
 
   unfoldable pub loopsFollowed : Bool
-  loopsFollowed = all (followed room w 6) loopList
+  loopsFollowed = all (followed room w LOOP-FINS) loopList
 
   unfoldable pub edgesThere : Bool
-  edgesThere = all (λ e. ltb e (word w 6)) (idsOf room w edgePath)
+  edgesThere = all (λ e. ltb e (word w EDGES)) (idsOf room w edgePath)
 
   pub record Shelled : Type 0 where
-    pub body : b < word w 0
-    pub regions : all (followed room w 1) (listOf room w 0 b) ≡ true
+    pub body : b < word w BODIES
+    pub regions : all (followed room w REGION-SHELLS) (listOf room w BODY-REGIONS b) ≡ true
 
   pub record Faced : Type 0 where
     pub shelled : Shelled
-    pub faces : all (λ f. ltb f (word w 3)) (idsOf room w facePath) ≡ true
+    pub faces : all (λ f. ltb f (word w FACES)) (idsOf room w facePath) ≡ true
 
   pub record Looped : Type 0 where
     pub faced : Faced
-    pub loops : all (followed room w 6) loopList ≡ true
+    pub loops : all (followed room w LOOP-FINS) loopList ≡ true
 
   pub record Edged : Type 0 where
     pub looped : Looped
-    pub edges : all (λ e. ltb e (word w 6)) (idsOf room w edgePath) ≡ true
+    pub edges : all (λ e. ltb e (word w EDGES)) (idsOf room w edgePath) ≡ true
 
 -- a path was put into the front of a list
 pub record Laid (path out₀ out : List ℕ) (n : ℕ) : Type 0 where

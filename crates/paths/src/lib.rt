@@ -3,6 +3,13 @@
 // edges, then by the shells. What a walk follows exists, so it has room in a list as long as its largest table.
 use listing::list;
 use marks::clear;
+use model::names::BODIES;
+use model::names::BODY_REGIONS;
+use model::names::EDGES;
+use model::names::FACE_LOOPS;
+use model::names::FACES;
+use model::names::LOOP_FINS;
+use model::names::REGION_SHELLS;
 use parts::add_sources;
 use parts::all_followed;
 use parts::gather;
@@ -15,6 +22,7 @@ ghost use Prim.Native.Nat.{_+_, _<_, _≤_};
 ghost use lib.Dec.{ltb};
 ghost use lib.ListN.{length, replicate};
 ghost use Rattle.meaning.specs.Lists.{all, joined};
+ghost use Rattle.model.specs.Names.{FACES, FACE-LOOPS, LOOP-FINS};
 ghost use Rattle.model.specs.Layout.{word};
 ghost use Rattle.model.specs.Entries.{listOf};
 ghost use Rattle.model.specs.Fit.{Lists};
@@ -28,10 +36,15 @@ pub fn body_followed(room: &[usize; 10], words: &[u32], body: usize) -> bool
     requires { ⌜ Lists (now room) (now words) ⌝ }
     ensures { λ r. ⌜ r ≡ bodyFollowed (now (room .entry)) (now (words .entry)) body ⌝ }
 {
-    if words[0] as usize <= body {
+    if words[BODIES] as usize <= body {
         return false;
     }
-    all_followed(room, words, 1, list(room, words, 0, body))
+    all_followed(
+        room,
+        words,
+        REGION_SHELLS,
+        list(room, words, BODY_REGIONS, body),
+    )
 }
 
 // Puts the body's shells into the path from place m on, as sources of list k, and returns the next place.
@@ -49,7 +62,15 @@ pub fn shells(
     ensures { λ r. ⌜ r ≡ m + length (shellList (now (room .entry)) (now (words .entry)) body) ⌝ }
     ensures { λ _. ⌜ now (path .exit) ≡ puts (now (path .entry)) m (sourced k (shellList (now (room .entry)) (now (words .entry)) body)) ⌝ }
 {
-    gather(room, words, 1, list(room, words, 0, body), k, path, m)
+    gather(
+        room,
+        words,
+        REGION_SHELLS,
+        list(room, words, BODY_REGIONS, body),
+        k,
+        path,
+        m,
+    )
 }
 
 // The path of the faces walk: returns its length.
@@ -69,7 +90,7 @@ pub fn faces_there(room: &[usize; 10], words: &[u32], body: usize) -> bool
 {
     let mut path = [0u32; 256];
     let n = face_path(room, words, body, &mut path);
-    all_listed(room, words, &path[..n], words[3])
+    all_listed(room, words, &path[..n], words[FACES])
 }
 
 // The faces of a body, as many of the first as the list takes. The marks come all zero and are left so.
@@ -96,13 +117,19 @@ pub fn faces(
 // Do the loops of the faces, and their fins, exist?
 fn all_loops_followed(room: &[usize; 10], words: &[u32], faces: &[u32]) -> bool
     requires { ⌜ Lists (now room) (now words) ⌝ }
-    requires { ⌜ all (λ f. ltb f (word (now words) 3)) (now faces) ≡ true ⌝ }
-    ensures { λ r. ⌜ r ≡ all (followed (now (room .entry)) (now (words .entry)) 6) (joined (listOf (now (room .entry)) (now (words .entry)) 5) (now (faces .entry))) ⌝ }
+    requires { ⌜ all (λ f. ltb f (word (now words) FACES)) (now faces) ≡ true ⌝ }
+    ensures { λ r. ⌜ r ≡ all (followed (now (room .entry)) (now (words .entry)) LOOP-FINS) (joined (listOf (now (room .entry)) (now (words .entry)) FACE-LOOPS) (now (faces .entry))) ⌝ }
 {
     let mut ok = true;
     let mut k = 0;
     while k < faces.len() {
-        ok = ok & all_followed(room, words, 6, list(room, words, 5, faces[k] as usize));
+        ok = ok
+            & all_followed(
+                room,
+                words,
+                LOOP_FINS,
+                list(room, words, FACE_LOOPS, faces[k] as usize),
+            );
         k += 1;
     }
     ok
@@ -137,7 +164,7 @@ pub fn edge_path(
 {
     let mut list = [0u32; 512];
     let n = faces(room, words, body, marks, &mut list);
-    let m = gather(room, words, 5, &list[..n], 6, path, 0);
+    let m = gather(room, words, FACE_LOOPS, &list[..n], 6, path, 0);
     shells(room, words, body, 3, path, m)
 }
 
@@ -151,7 +178,7 @@ pub fn edges_there(room: &[usize; 10], words: &[u32], body: usize, marks: &mut [
 {
     let mut path = [0u32; 8448];
     let n = edge_path(room, words, body, marks, &mut path);
-    all_listed(room, words, &path[..n], words[6])
+    all_listed(room, words, &path[..n], words[EDGES])
 }
 
 // The edges of a body, as many of the first as the list takes. The marks come all zero and are left so.

@@ -2,6 +2,7 @@
 use Prim.Native.Nat.{ℕ, _+_, _≤_, _<_}
 use mathlib.Core.List.{List, [], _∷_}
 use lib.ListN.{length}
+use Rattle.model.specs.Names.{FINS, EDGES, VERTICES, AT-EDGE-END, AT-EDGE-END-ID, AT-EDGE-CURVE, AT-EDGE-CURVE-ID, AT-EDGE-TOLERANCE}
 use Rattle.model.specs.Layout.{word, wordsNeeded}
 use Rattle.model.specs.Fit.{Small}
 
@@ -11,23 +12,23 @@ pub record Slots (room w : List ℕ) (n : ℕ) : Type 0 where
   pub enough : wordsNeeded room ≤ length w
   pub counts : 10 ≤ length w
   pub few : n ≤ 8
-  pub fins : word w 5 + n ≤ word room 5
-  pub edges : word w 6 < word room 6
-  pub vertices : word w 7 < word room 7
-  pub most-fins : word room 5 ≤ 4096
-  pub most-edges : word room 6 ≤ 2048
-  pub most-vertices : word room 7 ≤ 2048
+  pub fins : word w FINS + n ≤ word room FINS
+  pub edges : word w EDGES < word room EDGES
+  pub vertices : word w VERTICES < word room VERTICES
+  pub most-fins : word room FINS ≤ 4096
+  pub most-edges : word room EDGES ≤ 2048
+  pub most-vertices : word room VERTICES ≤ 2048
 
 -- the new edge's first words as `secondFields`, with all eight fins
 unfoldable pub secondRoom : List ℕ → ℕ → ℕ → ℕ → List ℕ
 secondRoom s vertex first n =
     1
     ∷ vertex
-    ∷ word s 2
-    ∷ word s 3
-    ∷ word s 4
-    ∷ word s 5
-    ∷ word s 6
+    ∷ word s AT-EDGE-END
+    ∷ word s AT-EDGE-END-ID
+    ∷ word s AT-EDGE-CURVE
+    ∷ word s AT-EDGE-CURVE-ID
+    ∷ word s AT-EDGE-TOLERANCE
     ∷ n
     ∷ first
     ∷ (first + 1)

@@ -6,13 +6,14 @@ use lib.ListN.{length}
 use lib.Ieee.{Float}
 use Rattle.vectors.specs.declared.vector.Point3.{Point3}
 use Rattle.meaning.specs.Lists.{run}
+use Rattle.model.specs.Names.{SHELLS, LOOPS, FINS, EDGES, VERTICES, AT-SHELL-WIRES, AT-LOOP-FINS, AT-EDGE-END, AT-EDGE-END-ID, AT-EDGE-CURVE, AT-EDGE-CURVE-ID, AT-EDGE-TOLERANCE}
 use Rattle.model.specs.Layout.{word, wordsOf}
 use Rattle.frame.specs.Put.{over, putWords, putReals}
 use Rattle.halves.specs.Pass.{putAll, doubledAt}
 
 -- word p of fin i: 0 its loop, 2 its sense
 unfoldable pub finWord : List ℕ → List ℕ → ℕ → ℕ → ℕ
-finWord room w p i = word (wordsOf room w 5 i) p
+finWord room w p i = word (wordsOf room w FINS i) p
 
 -- and of each of a list of fins
 unfoldable pub finWords : List ℕ → List ℕ → ℕ → List ℕ → List ℕ
@@ -24,39 +25,39 @@ newFin owners senses edge k = word owners k ∷ edge ∷ word senses k ∷ 0 ∷
 
 -- "the new one the end, curve and tolerance": the new edge's first words, where s are the old one's: it starts at the new vertex, and lists n new fins from the first on
 unfoldable pub secondFields : List ℕ → ℕ → ℕ → ℕ → List ℕ
-secondFields s vertex first n = 1 ∷ vertex ∷ word s 2 ∷ word s 3 ∷ word s 4 ∷ word s 5 ∷ word s 6 ∷ n ∷ run first n
+secondFields s vertex first n = 1 ∷ vertex ∷ word s AT-EDGE-END ∷ word s AT-EDGE-END-ID ∷ word s AT-EDGE-CURVE ∷ word s AT-EDGE-CURVE-ID ∷ word s AT-EDGE-TOLERANCE ∷ n ∷ run first n
 
 -- ---- the words, step by step
 
 -- "A new fin stands after a positive old fin, before a negative one": the loops' lists
 unfoldable pub loopsPut : List ℕ → List ℕ → List ℕ → List ℕ → List ℕ → List ℕ
-loopsPut room fins owners senses w = putAll room 4 0 (doubledAt room w 4 1 fins owners senses true (word w 5)) (word w 4) w
+loopsPut room fins owners senses w = putAll room LOOPS 0 (doubledAt room w LOOPS AT-LOOP-FINS fins owners senses true (word w FINS)) (word w LOOPS) w
 
 -- "A new wire edge stands after the old one", in every shell that lists it
 unfoldable pub wiresPut : List ℕ → ℕ → List ℕ → List ℕ
-wiresPut room e w = putAll room 2 0 (doubledAt room w 2 514 (e ∷ []) (0 ∷ []) (0 ∷ []) false (word w 6)) (word w 2) w
+wiresPut room e w = putAll room SHELLS 0 (doubledAt room w SHELLS AT-SHELL-WIRES (e ∷ []) (0 ∷ []) (0 ∷ []) false (word w EDGES)) (word w SHELLS) w
 
 -- "new fins are made in the old edge's fin order"
 unfoldable pub finsPut : List ℕ → List ℕ → List ℕ → List ℕ → List ℕ
-finsPut room owners senses w = putAll room 5 (word w 5) (newFin owners senses (word w 6)) (length owners) w
+finsPut room owners senses w = putAll room FINS (word w FINS) (newFin owners senses (word w EDGES)) (length owners) w
 
 -- the new edge, in the next slot
 unfoldable pub secondPut : List ℕ → ℕ → ℕ → List ℕ → List ℕ
-secondPut room e n w = putWords room 6 (word w 6) (over 0 (secondFields (wordsOf room w 6 e) (word w 7) (word w 5) n) (wordsOf room w 6 (word w 6))) w
+secondPut room e n w = putWords room EDGES (word w EDGES) (over 0 (secondFields (wordsOf room w EDGES e) (word w VERTICES) (word w FINS) n) (wordsOf room w EDGES (word w EDGES))) w
 
 -- "The old edge keeps the start": its end is the new vertex
 unfoldable pub firstPut : List ℕ → ℕ → List ℕ → List ℕ
-firstPut room e w = putWords room 6 e (over 2 (1 ∷ word w 7 ∷ []) (wordsOf room w 6 e)) w
+firstPut room e w = putWords room EDGES e (over AT-EDGE-END (1 ∷ word w VERTICES ∷ []) (wordsOf room w EDGES e)) w
 
 -- "The new vertex takes the edge's own tolerance": whether there is one
 unfoldable pub vertexPut : List ℕ → ℕ → List ℕ → List ℕ
-vertexPut room e w = putWords room 7 (word w 7) (word (wordsOf room w 6 e) 6 ∷ []) w
+vertexPut room e w = putWords room VERTICES (word w VERTICES) (word (wordsOf room w EDGES e) AT-EDGE-TOLERANCE ∷ []) w
 
 -- n fins, an edge and a vertex more
 unfoldable pub countsPut : ℕ → List ℕ → List ℕ
-countsPut n w = over 5 ((word w 5 + n) ∷ (word w 6 + 1) ∷ (word w 7 + 1) ∷ []) w
+countsPut n w = over FINS ((word w FINS + n) ∷ (word w EDGES + 1) ∷ (word w VERTICES + 1) ∷ []) w
 
 -- ---- the floats: the new edge's tolerance, then the new vertex's point and tolerance
 
 unfoldable pub floatsPut : List ℕ → ℕ → ℕ → Point3 → Float → List Float → List Float
-floatsPut room edge vertex p t x = putReals room 7 vertex (p .x ∷ p .y ∷ p .z ∷ t ∷ []) (putReals room 6 edge (t ∷ []) x)
+floatsPut room edge vertex p t x = putReals room VERTICES vertex (p .x ∷ p .y ∷ p .z ∷ t ∷ []) (putReals room EDGES edge (t ∷ []) x)

@@ -1,22 +1,25 @@
 // The fins of an edge: what the writing reads of them, and the new ones.
 use model::layout::words_of;
+use model::names::EDGES;
+use model::names::FINS;
 use writes::put::put_words;
 ghost use mathlib.Core.Path.{_≡_};
 ghost use Prim.Native.Nat.{_<_};
 ghost use lib.ListN.{length};
+ghost use Rattle.model.specs.Names.{FINS};
 ghost use Rattle.model.specs.Layout.{word};
 ghost use Rattle.model.specs.Fit.{Lists};
 ghost use Rattle.attached.specs.Facts.{Present};
 ghost use Rattle.pieces.specs.Pieces.{finWord, finWords, finsPut};
 ghost use Rattle.pieces.specs.Facts.{Slots};
 
-// Word p of a fin: 0 its loop, 2 its sense.
+// Word p of a fin: its loop, or its sense.
 fn fin_word(room: &[usize; 10], words: &[u32], fin: usize, p: usize) -> u32
     requires { ⌜ Lists (now room) (now words) ⌝ }
-    requires { ⌜ (fin < word (now words) 5) × (p < 4) ⌝ }
+    requires { ⌜ (fin < word (now words) FINS) × (p < 4) ⌝ }
     ensures { λ r. ⌜ r ≡ finWord (now (room .entry)) (now (words .entry)) p fin ⌝ }
 {
-    let w = words_of(room, words, 5, fin);
+    let w = words_of(room, words, FINS, fin);
     w[p]
 }
 
@@ -40,12 +43,12 @@ pub fn put_fins(room: &[usize; 10], words: &mut [u32], owners: &[u32], senses: &
     requires { ⌜ length (now senses) ≡ length (now owners) ⌝ }
     ensures { λ _. ⌜ now (words .exit) ≡ finsPut (now (room .entry)) (now (owners .entry)) (now (senses .entry)) (now (words .entry)) ⌝ }
 {
-    let from = words[5] as usize;
-    let edge = words[6];
+    let from = words[FINS] as usize;
+    let edge = words[EDGES];
     let mut k = 0;
     while k < owners.len() {
         let fin = [owners[k], edge, senses[k], 0];
-        put_words(room, words, 5, from + k, 0, &fin);
+        put_words(room, words, FINS, from + k, 0, &fin);
         k += 1;
     }
 }

@@ -1,10 +1,17 @@
 // The lists that name the old fins and the old edge.
 use halves::passes::double_lists;
+use model::names::AT_LOOP_FINS;
+use model::names::AT_SHELL_WIRES;
+use model::names::EDGES;
+use model::names::FINS;
+use model::names::LOOPS;
+use model::names::SHELLS;
 ghost use mathlib.Core.Path.{_≡_};
 ghost use Prim.Native.Nat.{_<_};
 ghost use mathlib.Core.Bool.{true, false};
 ghost use mathlib.Core.List.{[], _∷_};
 ghost use lib.ListN.{length};
+ghost use Rattle.model.specs.Names.{SHELLS, LOOPS, FINS, EDGES, AT-SHELL-WIRES, AT-LOOP-FINS};
 ghost use Rattle.model.specs.Layout.{word};
 ghost use Rattle.beside.specs.Facts.{Olds};
 ghost use Rattle.halves.specs.Facts.{Roomy};
@@ -20,25 +27,47 @@ pub fn put_loops(
     senses: &[u32],
 )
     requires { ⌜ Slots (now room) (now words) 0 ⌝ }
-    requires { ⌜ Olds (now fins) (now owners) (now senses) (word (now words) 5) ⌝ }
-    requires { ⌜ Roomy (now room) (now words) 4 1 (word (now words) 4) (now fins) (now owners) (now senses) true (word (now words) 5) ⌝ }
+    requires { ⌜ Olds (now fins) (now owners) (now senses) (word (now words) FINS) ⌝ }
+    requires { ⌜ Roomy (now room) (now words) LOOPS AT-LOOP-FINS (word (now words) LOOPS) (now fins) (now owners) (now senses) true (word (now words) FINS) ⌝ }
     ensures { λ _. ⌜ now (words .exit) ≡ loopsPut (now (room .entry)) (now (fins .entry)) (now (owners .entry)) (now (senses .entry)) (now (words .entry)) ⌝ }
 {
-    let n = words[4] as usize;
-    let first = words[5];
-    double_lists(room, words, 4, 1, n, fins, owners, senses, true, first);
+    let n = words[LOOPS] as usize;
+    let first = words[FINS];
+    double_lists(
+        room,
+        words,
+        LOOPS,
+        AT_LOOP_FINS,
+        n,
+        fins,
+        owners,
+        senses,
+        true,
+        first,
+    );
 }
 
 // Every shell.
 pub fn put_wires(room: &[usize; 10], words: &mut [u32], edge: usize)
     requires { ⌜ Slots (now room) (now words) 0 ⌝ }
-    requires { ⌜ edge < word (now words) 6 ⌝ }
-    requires { ⌜ Roomy (now room) (now words) 2 514 (word (now words) 2) (edge ∷ []) (0 ∷ []) (0 ∷ []) false (word (now words) 6) ⌝ }
+    requires { ⌜ edge < word (now words) EDGES ⌝ }
+    requires { ⌜ Roomy (now room) (now words) SHELLS AT-SHELL-WIRES (word (now words) SHELLS) (edge ∷ []) (0 ∷ []) (0 ∷ []) false (word (now words) EDGES) ⌝ }
     ensures { λ _. ⌜ now (words .exit) ≡ wiresPut (now (room .entry)) edge (now (words .entry)) ⌝ }
 {
-    let n = words[2] as usize;
-    let first = words[6];
+    let n = words[SHELLS] as usize;
+    let first = words[EDGES];
     let old = [edge as u32];
     let mark = [0u32];
-    double_lists(room, words, 2, 514, n, &old, &mark, &mark, false, first);
+    double_lists(
+        room,
+        words,
+        SHELLS,
+        AT_SHELL_WIRES,
+        n,
+        &old,
+        &mark,
+        &mark,
+        false,
+        first,
+    );
 }

@@ -3,6 +3,12 @@ use fetched::carriers::curve_found;
 use fetched::carriers::line_refusal;
 use fetched::carriers::surface_found;
 use model::layout::words_of;
+use model::names::AT_EDGE_CURVE;
+use model::names::AT_EDGE_CURVE_ID;
+use model::names::AT_FACE_SURFACE;
+use model::names::AT_FACE_SURFACE_ID;
+use model::names::EDGES;
+use model::names::FACES;
 use segments::refusals::then;
 use segments::refusals::unless;
 use store::Found;
@@ -30,12 +36,12 @@ fn flat_face(room: &[usize; 10], words: &[u32], reals: &[f64], i: usize) -> u32
     requires { ⌜ Fit (now room) (now words) (now reals) ⌝ }
     ensures { λ r. ⌜ r ≡ flatFace (decode (now (room .entry)) (now (words .entry)) (now (reals .entry))) i ⌝ }
 {
-    if words[3] as usize <= i {
+    if words[FACES] as usize <= i {
         return 2;
     }
-    let w = words_of(room, words, 3, i);
-    let plane = plane_refusal(surface_found(room, words, reals, w[5] as usize));
-    then(unless(1, w[4] != 0), plane)
+    let w = words_of(room, words, FACES, i);
+    let plane = plane_refusal(surface_found(room, words, reals, w[AT_FACE_SURFACE_ID] as usize));
+    then(unless(1, w[AT_FACE_SURFACE] != 0), plane)
 }
 
 // The edge missing 2, no curve 1, its curve missing 2, no line 7.
@@ -43,12 +49,12 @@ fn straight_edge(room: &[usize; 10], words: &[u32], reals: &[f64], i: usize) -> 
     requires { ⌜ Fit (now room) (now words) (now reals) ⌝ }
     ensures { λ r. ⌜ r ≡ straightEdge (decode (now (room .entry)) (now (words .entry)) (now (reals .entry))) i ⌝ }
 {
-    if words[6] as usize <= i {
+    if words[EDGES] as usize <= i {
         return 2;
     }
-    let w = words_of(room, words, 6, i);
-    let line = line_refusal(curve_found(room, words, reals, w[5] as usize));
-    then(unless(1, w[4] != 0), line)
+    let w = words_of(room, words, EDGES, i);
+    let line = line_refusal(curve_found(room, words, reals, w[AT_EDGE_CURVE_ID] as usize));
+    then(unless(1, w[AT_EDGE_CURVE] != 0), line)
 }
 
 // The number of an edge, or of a face.

@@ -5,6 +5,7 @@ use mathlib.Core.List.{List}
 use lib.Dec.{ltb}
 use lib.Ieee.{Float}
 use Rattle.geometry.specs.Refuse.{_unless_, _then_}
+use Rattle.model.specs.Names.{BODIES, REGIONS, SHELLS, FACES, LOOPS, FINS, EDGES, VERTICES}
 use Rattle.model.specs.Layout.{word}
 use Rattle.model.specs.Readable.{readable}
 use Rattle.present.specs.declared.EntityRef.{EntityRef}
@@ -17,14 +18,14 @@ module _ (room w : List ℕ) (x : List Float) where
 
 -- an entity as its table and its id
 unfoldable pub tableOf : EntityRef → ℕ
-tableOf (Entities.Body i) = 0
-tableOf (Entities.Region i) = 1
-tableOf (Entities.Shell i) = 2
-tableOf (Entities.Face i) = 3
-tableOf (Entities.Loop i) = 4
-tableOf (Entities.Fin i) = 5
-tableOf (Entities.Edge i) = 6
-tableOf (Entities.Vertex i) = 7
+tableOf (Entities.Body i) = BODIES
+tableOf (Entities.Region i) = REGIONS
+tableOf (Entities.Shell i) = SHELLS
+tableOf (Entities.Face i) = FACES
+tableOf (Entities.Loop i) = LOOPS
+tableOf (Entities.Fin i) = FINS
+tableOf (Entities.Edge i) = EDGES
+tableOf (Entities.Vertex i) = VERTICES
 
 unfoldable pub idOf : EntityRef → ℕ
 idOf (Entities.Body i) = i

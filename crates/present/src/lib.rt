@@ -1,6 +1,15 @@
 // Whether a record that a call names is there, and the session precision (model.rs). Each tests 9 first; an id that a call is
 // asked with is a usize, as a place in a list is.
 use legible::readable;
+use model::names::BODIES;
+use model::names::EDGES;
+use model::names::FACES;
+use model::names::FINS;
+use model::names::LOOPS;
+use model::names::PRECISION;
+use model::names::REGIONS;
+use model::names::SHELLS;
+use model::names::VERTICES;
 ghost use mathlib.Core.Path.{_≡_};
 ghost use Prim.Native.Nat.{_<_};
 ghost use Rattle.present.specs.Answers.{precisionAnswer, containsAnswer};
@@ -50,21 +59,21 @@ pub fn precision(room: &[usize; 10], words: &[u32], reals: &[f64]) -> PrecisionF
     if !readable(room, words, reals) {
         return PrecisionFound::Refused(9);
     }
-    PrecisionFound::Is(reals[0])
+    PrecisionFound::Is(reals[PRECISION])
 }
 
 fn table_of(entity: EntityRef) -> usize
     ensures { λ r. ⌜ r ≡ tableOf entity ⌝ }
 {
     match entity {
-        EntityRef::Body(_) => 0,
-        EntityRef::Region(_) => 1,
-        EntityRef::Shell(_) => 2,
-        EntityRef::Face(_) => 3,
-        EntityRef::Loop(_) => 4,
-        EntityRef::Fin(_) => 5,
-        EntityRef::Edge(_) => 6,
-        EntityRef::Vertex(_) => 7,
+        EntityRef::Body(_) => BODIES,
+        EntityRef::Region(_) => REGIONS,
+        EntityRef::Shell(_) => SHELLS,
+        EntityRef::Face(_) => FACES,
+        EntityRef::Loop(_) => LOOPS,
+        EntityRef::Fin(_) => FINS,
+        EntityRef::Edge(_) => EDGES,
+        EntityRef::Vertex(_) => VERTICES,
     }
 }
 

@@ -3,6 +3,7 @@
 use entity::records::Edge;
 use entity::records::Ref;
 use fetched::vertex_at;
+use model::names::VERTICES;
 use queried::Projected;
 use queried::project_to_curve;
 use reasons::Tally;
@@ -31,7 +32,7 @@ pub fn parameter_at(room: &[usize; 10], words: &[u32], reals: &[f64], curve: Fou
     requires { ⌜ Sized (now room) (now words) (now reals) ⌝ }
     ensures { λ r. ⌜ r ≡ paramAt (decode (now (room .entry)) (now (words .entry)) (now (reals .entry))) curve v ⌝ }
 {
-    if words[7] <= v {
+    if words[VERTICES] <= v {
         return Param::None;
     }
     match project_to_curve(curve, vertex_at(room, words, reals, v as usize).point) {

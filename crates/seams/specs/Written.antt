@@ -3,6 +3,7 @@
 use Prim.Native.Nat.{ℕ}
 use mathlib.Core.List.{List}
 use lib.ListN.{length}
+use Rattle.model.specs.Names.{EDGE-FINS, AT-FIN-LOOP, AT-FIN-SENSE}
 use Rattle.model.specs.Entries.{listOf}
 use Rattle.pieces.specs.Pieces.{finWords, loopsPut, wiresPut, finsPut, secondPut, firstPut, vertexPut, countsPut}
 
@@ -20,4 +21,4 @@ splitPut room e fins owners senses w = countsPut (length owners) (recordsPut roo
 
 -- all words behind an accepted split of the edge e: of its fins in its own order, with the loop and the sense of each
 unfoldable pub wordsSplit : List ℕ → List ℕ → ℕ → List ℕ
-wordsSplit room w e = splitPut room e (listOf room w 7 e) (finWords room w 0 (listOf room w 7 e)) (finWords room w 2 (listOf room w 7 e)) w
+wordsSplit room w e = splitPut room e (listOf room w EDGE-FINS e) (finWords room w AT-FIN-LOOP (listOf room w EDGE-FINS e)) (finWords room w AT-FIN-SENSE (listOf room w EDGE-FINS e)) w

@@ -2,6 +2,9 @@
 // become.
 use added::records::put_second;
 use listing::list;
+use model::names::AT_FIN_LOOP;
+use model::names::AT_FIN_SENSE;
+use model::names::EDGE_FINS;
 use pieces::fins::fin_words;
 use pieces::fins::put_fins;
 use pieces::relist::put_loops;
@@ -13,6 +16,7 @@ use writes::write::write_words;
 ghost use mathlib.Core.Path.{_≡_};
 ghost use Prim.Native.Nat.{_<_};
 ghost use lib.ListN.{length};
+ghost use Rattle.model.specs.Names.{EDGES, EDGE-FINS};
 ghost use Rattle.model.specs.Layout.{word};
 ghost use Rattle.model.specs.Entries.{listOf};
 ghost use Rattle.model.specs.Fit.{Lists};
@@ -39,7 +43,7 @@ fn write_lists(
 // The new fins, the two halves, the new vertex.
 fn write_records(room: &[usize; 10], words: &mut [u32], edge: usize, owners: &[u32], senses: &[u32])
     requires { ⌜ Slots (now room) (now words) (length (now owners)) ⌝ }
-    requires { ⌜ edge < word (now words) 6 ⌝ }
+    requires { ⌜ edge < word (now words) EDGES ⌝ }
     requires { ⌜ length (now senses) ≡ length (now owners) ⌝ }
     ensures { λ _. ⌜ now (words .exit) ≡ recordsPut (now (room .entry)) edge (now (owners .entry)) (now (senses .entry)) (now (words .entry)) ⌝ }
 {
@@ -69,11 +73,11 @@ fn write_with(
 // The edge's fins.
 fn copy_fins(room: &[usize; 10], words: &[u32], edge: usize, out: &mut [u32])
     requires { ⌜ Lists (now room) (now words) ⌝ }
-    requires { ⌜ edge < word (now words) 6 ⌝ }
-    requires { ⌜ length (now out) ≡ length (listOf (now room) (now words) 7 edge) ⌝ }
-    ensures { λ _. ⌜ now (out .exit) ≡ listOf (now (room .entry)) (now (words .entry)) 7 edge ⌝ }
+    requires { ⌜ edge < word (now words) EDGES ⌝ }
+    requires { ⌜ length (now out) ≡ length (listOf (now room) (now words) EDGE-FINS edge) ⌝ }
+    ensures { λ _. ⌜ now (out .exit) ≡ listOf (now (room .entry)) (now (words .entry)) EDGE-FINS edge ⌝ }
 {
-    write_words(out, 0, list(room, words, 7, edge));
+    write_words(out, 0, list(room, words, EDGE_FINS, edge));
 }
 
 // The fins are read before anything is written; the three lent lists may hold anything.
@@ -86,14 +90,14 @@ fn write_read(
     senses: &mut [u32],
 )
     requires { ⌜ Listing (now room) (now words) edge ⌝ }
-    requires { ⌜ length (now fins) ≡ length (listOf (now room) (now words) 7 edge) ⌝ }
-    requires { ⌜ length (now owners) ≡ length (listOf (now room) (now words) 7 edge) ⌝ }
-    requires { ⌜ length (now senses) ≡ length (listOf (now room) (now words) 7 edge) ⌝ }
+    requires { ⌜ length (now fins) ≡ length (listOf (now room) (now words) EDGE-FINS edge) ⌝ }
+    requires { ⌜ length (now owners) ≡ length (listOf (now room) (now words) EDGE-FINS edge) ⌝ }
+    requires { ⌜ length (now senses) ≡ length (listOf (now room) (now words) EDGE-FINS edge) ⌝ }
     ensures { λ _. ⌜ now (words .exit) ≡ wordsSplit (now (room .entry)) (now (words .entry)) edge ⌝ }
 {
     copy_fins(room, &words[..], edge, fins);
-    fin_words(room, &words[..], &fins[..], 0, owners);
-    fin_words(room, &words[..], &fins[..], 2, senses);
+    fin_words(room, &words[..], &fins[..], AT_FIN_LOOP, owners);
+    fin_words(room, &words[..], &fins[..], AT_FIN_SENSE, senses);
     write_with(room, words, edge, &fins[..], &owners[..], &senses[..]);
 }
 
@@ -102,7 +106,7 @@ pub fn write_split(room: &[usize; 10], words: &mut [u32], edge: usize)
     requires { ⌜ Listing (now room) (now words) edge ⌝ }
     ensures { λ _. ⌜ now (words .exit) ≡ wordsSplit (now (room .entry)) (now (words .entry)) edge ⌝ }
 {
-    let n = list(room, &words[..], 7, edge).len();
+    let n = list(room, &words[..], EDGE_FINS, edge).len();
     let mut fins = [0u32; 8];
     let mut owners = [0u32; 8];
     let mut senses = [0u32; 8];

@@ -5,6 +5,14 @@ use entity::records::ref_at;
 use entity::records::sense_of;
 use forms::tags::face_known;
 use forms::tags::fin_known;
+use model::names::AT_FACE_BACK;
+use model::names::AT_FACE_FRONT;
+use model::names::AT_FACE_SENSE;
+use model::names::AT_FACE_SURFACE;
+use model::names::AT_FIN_EDGE;
+use model::names::AT_FIN_LOOP;
+use model::names::AT_FIN_PCURVE;
+use model::names::AT_FIN_SENSE;
 use sets::set_face;
 use sets::set_fin;
 ghost use mathlib.Core.Path.{_≡_};
@@ -12,6 +20,7 @@ ghost use mathlib.Core.List.{[]};
 ghost use Rattle.edits.specs.Answers.{editNumber, editWords, editReals};
 ghost use Rattle.lent.specs.Lent.{was, lent};
 ghost use Rattle.crossings.specs.Given.{faceKnown, finKnown, faceGiven, finGiven};
+ghost use Rattle.model.specs.Names.{FACES, FINS};
 
 pub fn face(
     room: &[usize; 10],
@@ -20,17 +29,17 @@ pub fn face(
     id: usize,
     value: &[u32; 7],
 ) -> u32
-    ensures answer { λ r. ⌜ r ≡ lent editNumber room words reals (faceKnown (was value)) 3 id ⌝ }
-    ensures tables { λ _. ⌜ now (words .exit) ≡ lent editWords room words reals (faceKnown (was value)) 3 id 0 (faceGiven (was value)) ⌝ }
-    ensures floats { λ _. ⌜ now (reals .exit) ≡ lent editReals room words reals (faceKnown (was value)) 3 id [] ⌝ }
+    ensures answer { λ r. ⌜ r ≡ lent editNumber room words reals (faceKnown (was value)) FACES id ⌝ }
+    ensures tables { λ _. ⌜ now (words .exit) ≡ lent editWords room words reals (faceKnown (was value)) FACES id 0 (faceGiven (was value)) ⌝ }
+    ensures floats { λ _. ⌜ now (reals .exit) ≡ lent editReals room words reals (faceKnown (was value)) FACES id [] ⌝ }
 {
     if !face_known(value) {
         return unknown_tag(room, &words[..], &reals[..]);
     }
-    let front = ref_at(value, 0);
-    let back = ref_at(value, 2);
-    let surface = ref_at(value, 4);
-    let sense = sense_of(value[6]);
+    let front = ref_at(value, AT_FACE_FRONT);
+    let back = ref_at(value, AT_FACE_BACK);
+    let surface = ref_at(value, AT_FACE_SURFACE);
+    let sense = sense_of(value[AT_FACE_SENSE]);
     set_face(room, words, reals, id, front, back, surface, sense)
 }
 
@@ -41,22 +50,22 @@ pub fn fin(
     id: usize,
     value: &[u32; 4],
 ) -> u32
-    ensures answer { λ r. ⌜ r ≡ lent editNumber room words reals (finKnown (was value)) 5 id ⌝ }
-    ensures tables { λ _. ⌜ now (words .exit) ≡ lent editWords room words reals (finKnown (was value)) 5 id 0 (finGiven (was value)) ⌝ }
-    ensures floats { λ _. ⌜ now (reals .exit) ≡ lent editReals room words reals (finKnown (was value)) 5 id [] ⌝ }
+    ensures answer { λ r. ⌜ r ≡ lent editNumber room words reals (finKnown (was value)) FINS id ⌝ }
+    ensures tables { λ _. ⌜ now (words .exit) ≡ lent editWords room words reals (finKnown (was value)) FINS id 0 (finGiven (was value)) ⌝ }
+    ensures floats { λ _. ⌜ now (reals .exit) ≡ lent editReals room words reals (finKnown (was value)) FINS id [] ⌝ }
 {
     if !fin_known(value) {
         return unknown_tag(room, &words[..], &reals[..]);
     }
-    let sense = sense_of(value[2]);
+    let sense = sense_of(value[AT_FIN_SENSE]);
     set_fin(
         room,
         words,
         reals,
         id,
-        value[0],
-        value[1],
+        value[AT_FIN_LOOP],
+        value[AT_FIN_EDGE],
         sense,
-        value[3] != 0,
+        value[AT_FIN_PCURVE] != 0,
     )
 }

@@ -15,6 +15,14 @@ use fields::region_fields;
 use fields::vertex_fields;
 use fields::vertex_floats;
 use geometry::tolerance::Tolerance;
+use model::names::BODIES;
+use model::names::CURVES;
+use model::names::EDGES;
+use model::names::FACES;
+use model::names::FINS;
+use model::names::REGIONS;
+use model::names::SURFACES;
+use model::names::VERTICES;
 use single::set_fields;
 use store::Carrier;
 use vectors::vector::Point3;
@@ -24,6 +32,7 @@ ghost use mathlib.Core.List.{[]};
 ghost use Rattle.meaning.specs.Edits.{toleranceOk};
 ghost use Rattle.edits.specs.Answers.{editNumber, editWords, editReals};
 ghost use Rattle.fields.specs.Fields.{bodyFields, regionFields, faceFields, finFields, edgeFields, vertexFields, carrierFields, edgeFloats, vertexFloats, carrierFloats};
+ghost use Rattle.model.specs.Names.{BODIES, REGIONS, FACES, FINS, EDGES, VERTICES, CURVES, SURFACES};
 
 pub fn set_body(
     room: &[usize; 10],
@@ -32,12 +41,12 @@ pub fn set_body(
     id: usize,
     kind: BodyKind,
 ) -> u32
-    ensures answer { λ r. ⌜ r ≡ editNumber (now (room .entry)) (now (words .entry)) (now (reals .entry)) true 0 id ⌝ }
-    ensures tables { λ _. ⌜ now (words .exit) ≡ editWords (now (room .entry)) (now (words .entry)) (now (reals .entry)) true 0 id 0 (bodyFields kind) ⌝ }
-    ensures floats { λ _. ⌜ now (reals .exit) ≡ editReals (now (room .entry)) (now (words .entry)) (now (reals .entry)) true 0 id [] ⌝ }
+    ensures answer { λ r. ⌜ r ≡ editNumber (now (room .entry)) (now (words .entry)) (now (reals .entry)) true BODIES id ⌝ }
+    ensures tables { λ _. ⌜ now (words .exit) ≡ editWords (now (room .entry)) (now (words .entry)) (now (reals .entry)) true BODIES id 0 (bodyFields kind) ⌝ }
+    ensures floats { λ _. ⌜ now (reals .exit) ≡ editReals (now (room .entry)) (now (words .entry)) (now (reals .entry)) true BODIES id [] ⌝ }
 {
     let fields = body_fields(kind);
-    set_fields(room, words, reals, 0, id, 0, &fields)
+    set_fields(room, words, reals, BODIES, id, 0, &fields)
 }
 
 pub fn set_region(
@@ -48,12 +57,12 @@ pub fn set_region(
     body: u32,
     solid: bool,
 ) -> u32
-    ensures answer { λ r. ⌜ r ≡ editNumber (now (room .entry)) (now (words .entry)) (now (reals .entry)) true 1 id ⌝ }
-    ensures tables { λ _. ⌜ now (words .exit) ≡ editWords (now (room .entry)) (now (words .entry)) (now (reals .entry)) true 1 id 0 (regionFields body solid) ⌝ }
-    ensures floats { λ _. ⌜ now (reals .exit) ≡ editReals (now (room .entry)) (now (words .entry)) (now (reals .entry)) true 1 id [] ⌝ }
+    ensures answer { λ r. ⌜ r ≡ editNumber (now (room .entry)) (now (words .entry)) (now (reals .entry)) true REGIONS id ⌝ }
+    ensures tables { λ _. ⌜ now (words .exit) ≡ editWords (now (room .entry)) (now (words .entry)) (now (reals .entry)) true REGIONS id 0 (regionFields body solid) ⌝ }
+    ensures floats { λ _. ⌜ now (reals .exit) ≡ editReals (now (room .entry)) (now (words .entry)) (now (reals .entry)) true REGIONS id [] ⌝ }
 {
     let fields = region_fields(body, solid);
-    set_fields(room, words, reals, 1, id, 0, &fields)
+    set_fields(room, words, reals, REGIONS, id, 0, &fields)
 }
 
 pub fn set_face(
@@ -66,12 +75,12 @@ pub fn set_face(
     surface: Ref,
     sense: Sense,
 ) -> u32
-    ensures answer { λ r. ⌜ r ≡ editNumber (now (room .entry)) (now (words .entry)) (now (reals .entry)) true 3 id ⌝ }
-    ensures tables { λ _. ⌜ now (words .exit) ≡ editWords (now (room .entry)) (now (words .entry)) (now (reals .entry)) true 3 id 0 (faceFields front back surface sense) ⌝ }
-    ensures floats { λ _. ⌜ now (reals .exit) ≡ editReals (now (room .entry)) (now (words .entry)) (now (reals .entry)) true 3 id [] ⌝ }
+    ensures answer { λ r. ⌜ r ≡ editNumber (now (room .entry)) (now (words .entry)) (now (reals .entry)) true FACES id ⌝ }
+    ensures tables { λ _. ⌜ now (words .exit) ≡ editWords (now (room .entry)) (now (words .entry)) (now (reals .entry)) true FACES id 0 (faceFields front back surface sense) ⌝ }
+    ensures floats { λ _. ⌜ now (reals .exit) ≡ editReals (now (room .entry)) (now (words .entry)) (now (reals .entry)) true FACES id [] ⌝ }
 {
     let fields = face_fields(front, back, surface, sense);
-    set_fields(room, words, reals, 3, id, 0, &fields)
+    set_fields(room, words, reals, FACES, id, 0, &fields)
 }
 
 pub fn set_fin(
@@ -84,12 +93,12 @@ pub fn set_fin(
     sense: Sense,
     pcurve: bool,
 ) -> u32
-    ensures answer { λ r. ⌜ r ≡ editNumber (now (room .entry)) (now (words .entry)) (now (reals .entry)) true 5 id ⌝ }
-    ensures tables { λ _. ⌜ now (words .exit) ≡ editWords (now (room .entry)) (now (words .entry)) (now (reals .entry)) true 5 id 0 (finFields owner edge sense pcurve) ⌝ }
-    ensures floats { λ _. ⌜ now (reals .exit) ≡ editReals (now (room .entry)) (now (words .entry)) (now (reals .entry)) true 5 id [] ⌝ }
+    ensures answer { λ r. ⌜ r ≡ editNumber (now (room .entry)) (now (words .entry)) (now (reals .entry)) true FINS id ⌝ }
+    ensures tables { λ _. ⌜ now (words .exit) ≡ editWords (now (room .entry)) (now (words .entry)) (now (reals .entry)) true FINS id 0 (finFields owner edge sense pcurve) ⌝ }
+    ensures floats { λ _. ⌜ now (reals .exit) ≡ editReals (now (room .entry)) (now (words .entry)) (now (reals .entry)) true FINS id [] ⌝ }
 {
     let fields = fin_fields(owner, edge, sense, pcurve);
-    set_fields(room, words, reals, 5, id, 0, &fields)
+    set_fields(room, words, reals, FINS, id, 0, &fields)
 }
 
 pub fn set_edge(
@@ -102,9 +111,9 @@ pub fn set_edge(
     curve: Ref,
     tolerance: Tolerance,
 ) -> u32
-    ensures answer { λ r. ⌜ r ≡ editNumber (now (room .entry)) (now (words .entry)) (now (reals .entry)) (toleranceOk tolerance) 6 id ⌝ }
-    ensures tables { λ _. ⌜ now (words .exit) ≡ editWords (now (room .entry)) (now (words .entry)) (now (reals .entry)) (toleranceOk tolerance) 6 id 0 (edgeFields start end curve tolerance) ⌝ }
-    ensures floats { λ _. ⌜ now (reals .exit) ≡ editReals (now (room .entry)) (now (words .entry)) (now (reals .entry)) (toleranceOk tolerance) 6 id (edgeFloats tolerance) ⌝ }
+    ensures answer { λ r. ⌜ r ≡ editNumber (now (room .entry)) (now (words .entry)) (now (reals .entry)) (toleranceOk tolerance) EDGES id ⌝ }
+    ensures tables { λ _. ⌜ now (words .exit) ≡ editWords (now (room .entry)) (now (words .entry)) (now (reals .entry)) (toleranceOk tolerance) EDGES id 0 (edgeFields start end curve tolerance) ⌝ }
+    ensures floats { λ _. ⌜ now (reals .exit) ≡ editReals (now (room .entry)) (now (words .entry)) (now (reals .entry)) (toleranceOk tolerance) EDGES id (edgeFloats tolerance) ⌝ }
 {
     let fields = edge_fields(start, end, curve, tolerance);
     let floats = edge_floats(tolerance);
@@ -113,7 +122,7 @@ pub fn set_edge(
         words,
         reals,
         tolerance_ok(tolerance),
-        6,
+        EDGES,
         id,
         0,
         &fields,
@@ -129,9 +138,9 @@ pub fn set_vertex(
     point: Point3,
     tolerance: Tolerance,
 ) -> u32
-    ensures answer { λ r. ⌜ r ≡ editNumber (now (room .entry)) (now (words .entry)) (now (reals .entry)) (toleranceOk tolerance) 7 id ⌝ }
-    ensures tables { λ _. ⌜ now (words .exit) ≡ editWords (now (room .entry)) (now (words .entry)) (now (reals .entry)) (toleranceOk tolerance) 7 id 0 (vertexFields tolerance) ⌝ }
-    ensures floats { λ _. ⌜ now (reals .exit) ≡ editReals (now (room .entry)) (now (words .entry)) (now (reals .entry)) (toleranceOk tolerance) 7 id (vertexFloats point tolerance) ⌝ }
+    ensures answer { λ r. ⌜ r ≡ editNumber (now (room .entry)) (now (words .entry)) (now (reals .entry)) (toleranceOk tolerance) VERTICES id ⌝ }
+    ensures tables { λ _. ⌜ now (words .exit) ≡ editWords (now (room .entry)) (now (words .entry)) (now (reals .entry)) (toleranceOk tolerance) VERTICES id 0 (vertexFields tolerance) ⌝ }
+    ensures floats { λ _. ⌜ now (reals .exit) ≡ editReals (now (room .entry)) (now (words .entry)) (now (reals .entry)) (toleranceOk tolerance) VERTICES id (vertexFloats point tolerance) ⌝ }
 {
     let fields = vertex_fields(tolerance);
     let floats = vertex_floats(point, tolerance);
@@ -140,7 +149,7 @@ pub fn set_vertex(
         words,
         reals,
         tolerance_ok(tolerance),
-        7,
+        VERTICES,
         id,
         0,
         &fields,
@@ -155,13 +164,13 @@ pub fn set_curve(
     id: usize,
     carrier: Carrier,
 ) -> u32
-    ensures answer { λ r. ⌜ r ≡ editNumber (now (room .entry)) (now (words .entry)) (now (reals .entry)) true 8 id ⌝ }
-    ensures tables { λ _. ⌜ now (words .exit) ≡ editWords (now (room .entry)) (now (words .entry)) (now (reals .entry)) true 8 id 0 (carrierFields carrier) ⌝ }
-    ensures floats { λ _. ⌜ now (reals .exit) ≡ editReals (now (room .entry)) (now (words .entry)) (now (reals .entry)) true 8 id (carrierFloats carrier) ⌝ }
+    ensures answer { λ r. ⌜ r ≡ editNumber (now (room .entry)) (now (words .entry)) (now (reals .entry)) true CURVES id ⌝ }
+    ensures tables { λ _. ⌜ now (words .exit) ≡ editWords (now (room .entry)) (now (words .entry)) (now (reals .entry)) true CURVES id 0 (carrierFields carrier) ⌝ }
+    ensures floats { λ _. ⌜ now (reals .exit) ≡ editReals (now (room .entry)) (now (words .entry)) (now (reals .entry)) true CURVES id (carrierFloats carrier) ⌝ }
 {
     let fields = carrier_fields(carrier);
     let floats = carrier_floats(carrier);
-    edit(room, words, reals, true, 8, id, 0, &fields, &floats)
+    edit(room, words, reals, true, CURVES, id, 0, &fields, &floats)
 }
 
 pub fn set_surface(
@@ -171,11 +180,11 @@ pub fn set_surface(
     id: usize,
     carrier: Carrier,
 ) -> u32
-    ensures answer { λ r. ⌜ r ≡ editNumber (now (room .entry)) (now (words .entry)) (now (reals .entry)) true 9 id ⌝ }
-    ensures tables { λ _. ⌜ now (words .exit) ≡ editWords (now (room .entry)) (now (words .entry)) (now (reals .entry)) true 9 id 0 (carrierFields carrier) ⌝ }
-    ensures floats { λ _. ⌜ now (reals .exit) ≡ editReals (now (room .entry)) (now (words .entry)) (now (reals .entry)) true 9 id (carrierFloats carrier) ⌝ }
+    ensures answer { λ r. ⌜ r ≡ editNumber (now (room .entry)) (now (words .entry)) (now (reals .entry)) true SURFACES id ⌝ }
+    ensures tables { λ _. ⌜ now (words .exit) ≡ editWords (now (room .entry)) (now (words .entry)) (now (reals .entry)) true SURFACES id 0 (carrierFields carrier) ⌝ }
+    ensures floats { λ _. ⌜ now (reals .exit) ≡ editReals (now (room .entry)) (now (words .entry)) (now (reals .entry)) true SURFACES id (carrierFloats carrier) ⌝ }
 {
     let fields = carrier_fields(carrier);
     let floats = carrier_floats(carrier);
-    edit(room, words, reals, true, 9, id, 0, &fields, &floats)
+    edit(room, words, reals, true, SURFACES, id, 0, &fields, &floats)
 }

@@ -3,6 +3,10 @@ use faces::face;
 use fetched::region_at;
 use fetched::shell_at;
 use listing::list;
+use model::names::REGION_SHELLS;
+use model::names::REGIONS;
+use model::names::SHELL_FACES;
+use model::names::SHELLS;
 use reasons::BODY;
 use reasons::REGION;
 use reasons::SHELL;
@@ -65,12 +69,12 @@ fn shell(
     requires { ⌜ Enough t (shellFindings (decode (now room) (now words) (now reals)) (options geometry n) r s) ⌝ }
     ensures { λ a. ⌜ Noted (shellFindings (decode (now (room .entry)) (now (words .entry)) (now (reals .entry))) (options geometry n) r s) (now (nums .entry)) t (now (nums .exit)) a ⌝ }
 {
-    if words[2] <= s {
+    if words[SHELLS] <= s {
         return note(nums, t, 5, REGION, r);
     }
     let owner = shell_at(room, words, s as usize).region;
     let a = note_if(nums, t, owner != r, 6, SHELL, s);
-    let faces = list(room, words, 2, s as usize);
+    let faces = list(room, words, SHELL_FACES, s as usize);
     all_faces(room, words, reals, nums, a, geometry, n, s, faces)
 }
 
@@ -117,12 +121,12 @@ fn region(
     requires { ⌜ Enough t (regionFindings (decode (now room) (now words) (now reals)) (options geometry n) b r) ⌝ }
     ensures { λ a. ⌜ Noted (regionFindings (decode (now (room .entry)) (now (words .entry)) (now (reals .entry))) (options geometry n) b r) (now (nums .entry)) t (now (nums .exit)) a ⌝ }
 {
-    if words[1] <= r {
+    if words[REGIONS] <= r {
         return note(nums, t, 3, BODY, b);
     }
     let owner = region_at(room, words, r as usize).body;
     let a = note_if(nums, t, owner != b, 4, REGION, r);
-    let shells = list(room, words, 1, r as usize);
+    let shells = list(room, words, REGION_SHELLS, r as usize);
     all_shells(room, words, reals, nums, a, geometry, n, r, shells)
 }
 
@@ -156,7 +160,7 @@ fn is_solid_region(room: &[usize; 10], words: &[u32], r: u32) -> bool
     requires { ⌜ Lists (now room) (now words) ⌝ }
     ensures { λ a. ⌜ ((x : List Float) → a ≡ (has (decode (now (room .entry)) (now (words .entry)) x .regions) r && region (decode (now (room .entry)) (now (words .entry)) x) r .solid)) ⌝ }
 {
-    if words[1] <= r {
+    if words[REGIONS] <= r {
         return false;
     }
     region_at(room, words, r as usize).solid

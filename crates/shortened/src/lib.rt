@@ -1,10 +1,16 @@
 // What a split writes beside the fins and the new edge: the old edge's end, the new vertex, and how many records there are.
 // `pieces/specs/Pieces.antt` says what each step leaves. An edge's words are start tag, id, end tag, id, curve tag, id, tolerance tag, then its fins.
 use model::layout::words_of;
+use model::names::AT_EDGE_END;
+use model::names::AT_EDGE_TOLERANCE;
+use model::names::EDGES;
+use model::names::FINS;
+use model::names::VERTICES;
 use writes::put::put_words;
 use writes::write::write_words;
 ghost use mathlib.Core.Path.{_≡_};
 ghost use Prim.Native.Nat.{_<_};
+ghost use Rattle.model.specs.Names.{EDGES};
 ghost use Rattle.model.specs.Layout.{word};
 ghost use Rattle.pieces.specs.Pieces.{firstPut, vertexPut, countsPut};
 ghost use Rattle.pieces.specs.Facts.{Slots};
@@ -12,23 +18,23 @@ ghost use Rattle.pieces.specs.Facts.{Slots};
 // The old edge ends at the new vertex.
 pub fn put_first(room: &[usize; 10], words: &mut [u32], edge: usize)
     requires { ⌜ Slots (now room) (now words) 0 ⌝ }
-    requires { ⌜ edge < word (now words) 6 ⌝ }
+    requires { ⌜ edge < word (now words) EDGES ⌝ }
     ensures { λ _. ⌜ now (words .exit) ≡ firstPut (now (room .entry)) edge (now (words .entry)) ⌝ }
 {
-    let end = [1, words[7]];
-    put_words(room, words, 6, edge, 2, &end);
+    let end = [1, words[VERTICES]];
+    put_words(room, words, EDGES, edge, AT_EDGE_END, &end);
 }
 
 // Whether the new vertex has a tolerance of its own: as the edge.
 pub fn put_vertex(room: &[usize; 10], words: &mut [u32], edge: usize)
     requires { ⌜ Slots (now room) (now words) 0 ⌝ }
-    requires { ⌜ edge < word (now words) 6 ⌝ }
+    requires { ⌜ edge < word (now words) EDGES ⌝ }
     ensures { λ _. ⌜ now (words .exit) ≡ vertexPut (now (room .entry)) edge (now (words .entry)) ⌝ }
 {
-    let vertex = words[7] as usize;
-    let w = words_of(room, &words[..], 6, edge);
-    let tag = [w[6]];
-    put_words(room, words, 7, vertex, 0, &tag);
+    let vertex = words[VERTICES] as usize;
+    let w = words_of(room, &words[..], EDGES, edge);
+    let tag = [w[AT_EDGE_TOLERANCE]];
+    put_words(room, words, VERTICES, vertex, 0, &tag);
 }
 
 // n fins, an edge and a vertex more.
@@ -36,6 +42,10 @@ pub fn put_counts(room: &[usize; 10], words: &mut [u32], n: usize)
     requires { ⌜ Slots (now room) (now words) n ⌝ }
     ensures { λ _. ⌜ now (words .exit) ≡ countsPut n (now (words .entry)) ⌝ }
 {
-    let counts = [words[5] + n as u32, words[6] + 1, words[7] + 1];
-    write_words(words, 5, &counts);
+    let counts = [
+        words[FINS] + n as u32,
+        words[EDGES] + 1,
+        words[VERTICES] + 1,
+    ];
+    write_words(words, FINS, &counts);
 }

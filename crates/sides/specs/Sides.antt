@@ -8,6 +8,7 @@ use Rattle.geometry.specs.Refuse.{_unless_, _then_}
 use Rattle.meaning.specs.Lists.{all}
 use Rattle.meaning.specs.Refuse.{_if_, firstOf}
 use Rattle.meaning.specs.Inquire.{alike}
+use Rattle.model.specs.Names.{FACES, LOOPS, FACE-LOOPS, LOOP-FINS, AT-FACE-FRONT, AT-FACE-BACK}
 use Rattle.model.specs.Layout.{word, wordsOf}
 use Rattle.model.specs.Decode.{flagAt}
 use Rattle.model.specs.Entries.{listOf}
@@ -19,21 +20,21 @@ isAt w at y = flagAt w at && eqb (word w (at + 1)) y
 
 -- the tests of a side one after the other (`sideRefusal` of meaning): of the face's words, then of its rim
 unfoldable pub boundNumber : List ℕ → ℕ → ℕ → ℕ
-boundNumber w loops s = 1 if alike (isAt w 2 s) (isAt w 0 s) then 7 unless eqb loops 1
+boundNumber w loops s = 1 if alike (isAt w AT-FACE-BACK s) (isAt w AT-FACE-FRONT s) then 7 unless eqb loops 1
 
 module _ (room w : List ℕ) where
   unfoldable pub rimOf : ℕ → List ℕ
-  rimOf f = listOf room w 6 (word (listOf room w 5 f) 0)
+  rimOf f = listOf room w LOOP-FINS (word (listOf room w FACE-LOOPS f) 0)
 
   unfoldable pub rimNumber : List ℕ → ℕ
   rimNumber fins = 4 if ltb (length fins) 3 then firstOf (startNumber room w) fins
 
   unfoldable pub sideNumber : ℕ → ℕ → ℕ
-  sideNumber s f = boundNumber (wordsOf room w 3 f) (length (listOf room w 5 f)) s then rimNumber (rimOf f)
+  sideNumber s f = boundNumber (wordsOf room w FACES f) (length (listOf room w FACE-LOOPS f)) s then rimNumber (rimOf f)
 
   -- the loop exists, and so do the fins that it lists and their edges; the face and its loops
   unfoldable pub loopWhole : ℕ → Bool
-  loopWhole l = ltb l (word w 4) && all (finWhole room w) (listOf room w 6 l)
+  loopWhole l = ltb l (word w LOOPS) && all (finWhole room w) (listOf room w LOOP-FINS l)
 
   unfoldable pub faceWhole : ℕ → Bool
-  faceWhole f = ltb f (word w 3) && all loopWhole (listOf room w 5 f)
+  faceWhole f = ltb f (word w FACES) && all loopWhole (listOf room w FACE-LOOPS f)

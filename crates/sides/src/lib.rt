@@ -2,6 +2,11 @@
 // begin with front tag, id, back tag, id.
 use listing::list;
 use model::layout::words_of;
+use model::names::AT_FACE_BACK;
+use model::names::AT_FACE_FRONT;
+use model::names::FACE_LOOPS;
+use model::names::FACES;
+use model::names::LOOP_FINS;
 use polygons::polygon_volume;
 use segments::refusals::then;
 use segments::refusals::unless;
@@ -15,6 +20,7 @@ ghost use lib.ListN.{length};
 ghost use Rattle.meaning.specs.Lists.{all};
 ghost use Rattle.meaning.specs.Refuse.{firstOf};
 ghost use Rattle.meaning.specs.Inquire.{alike, polygonVolume, sideVolume};
+ghost use Rattle.model.specs.Names.{FACE-LOOPS};
 ghost use Rattle.model.specs.Decode.{decode};
 ghost use Rattle.model.specs.Entries.{listOf};
 ghost use Rattle.model.specs.Fit.{Fit, Lists};
@@ -44,7 +50,10 @@ fn bound_refusal(w: &[u32], loops: usize, shell: u32) -> u32
     requires { ⌜ length (now w) ≡ 24 ⌝ }
     ensures { λ r. ⌜ r ≡ boundNumber (now (w .entry)) loops shell ⌝ }
 {
-    let both = alike(is_at(w, 2, shell), is_at(w, 0, shell));
+    let both = alike(
+        is_at(w, AT_FACE_BACK, shell),
+        is_at(w, AT_FACE_FRONT, shell),
+    );
     then(unless(1, !both), unless(7, loops == 1))
 }
 
@@ -52,11 +61,11 @@ fn bound_refusal(w: &[u32], loops: usize, shell: u32) -> u32
 fn rim<'a>(room: &[usize; 10], words: &'a [u32], face: usize) -> &'a [u32]
     requires { ⌜ Lists (now room) (now words) ⌝ }
     requires { ⌜ faceWhole (now room) (now words) face ≡ true ⌝ }
-    requires { ⌜ length (listOf (now room) (now words) 5 face) ≡ 1 ⌝ }
+    requires { ⌜ length (listOf (now room) (now words) FACE-LOOPS face) ≡ 1 ⌝ }
     ensures { λ r. ⌜ now r ≡ rimOf (now (room .entry)) (now (words .entry)) face ⌝ }
 {
-    let loops = list(room, words, 5, face);
-    list(room, words, 6, loops[0] as usize)
+    let loops = list(room, words, FACE_LOOPS, face);
+    list(room, words, LOOP_FINS, loops[0] as usize)
 }
 
 // Fewer than three fins 4, a start none 7, its vertex missing 2.
@@ -75,8 +84,8 @@ pub fn side_refusal(room: &[usize; 10], words: &[u32], shell: u32, face: usize) 
     requires { ⌜ faceWhole (now room) (now words) face ≡ true ⌝ }
     ensures { λ r. ⌜ r ≡ sideNumber (now (room .entry)) (now (words .entry)) shell face ⌝ }
 {
-    let loops = list(room, words, 5, face).len();
-    let n = bound_refusal(words_of(room, words, 3, face), loops, shell);
+    let loops = list(room, words, FACE_LOOPS, face).len();
+    let n = bound_refusal(words_of(room, words, FACES, face), loops, shell);
     if n != 0 {
         return n;
     }
@@ -105,6 +114,6 @@ pub fn side_volume(room: &[usize; 10], words: &[u32], reals: &[f64], shell: u32,
     requires { ⌜ sideNumber (now room) (now words) shell face ≡ 0 ⌝ }
     ensures { λ r. ⌜ r ≡ sideVolume (decode (now (room .entry)) (now (words .entry)) (now (reals .entry))) (record { shell = shell; face = face }) ⌝ }
 {
-    let back = is_at(words_of(room, words, 3, face), 0, shell);
+    let back = is_at(words_of(room, words, FACES, face), AT_FACE_FRONT, shell);
     rim_volume(room, words, reals, rim(room, words, face), back)
 }

@@ -1,6 +1,10 @@
 // Other words in a record of a table without floats, and the edits that set one word: the region of a shell, the face of a
 // loop, the mark of a fin. 0, or 9; 2 for a missing record.
 use edits::edit;
+use model::names::AT_FIN_PCURVE;
+use model::names::FINS;
+use model::names::LOOPS;
+use model::names::SHELLS;
 ghost use mathlib.Core.Path.{_≡_};
 ghost use mathlib.Core.Bool.{true};
 ghost use mathlib.Core.List.{[], _∷_};
@@ -8,6 +12,7 @@ ghost use Rattle.edits.specs.Facts.{Fields};
 ghost use Rattle.edits.specs.Answers.{editNumber, editWords, editReals};
 ghost use Rattle.coded.specs.Tags.{mark};
 ghost use Rattle.fields.specs.Fields.{shellFields, loopFields};
+ghost use Rattle.model.specs.Names.{SHELLS, LOOPS, FINS, AT-FIN-PCURVE};
 
 // In a table without floats, from place p of the record on.
 pub fn set_fields(
@@ -35,12 +40,12 @@ pub fn set_shell(
     id: usize,
     region: u32,
 ) -> u32
-    ensures answer { λ r. ⌜ r ≡ editNumber (now (room .entry)) (now (words .entry)) (now (reals .entry)) true 2 id ⌝ }
-    ensures tables { λ _. ⌜ now (words .exit) ≡ editWords (now (room .entry)) (now (words .entry)) (now (reals .entry)) true 2 id 0 (shellFields region) ⌝ }
-    ensures floats { λ _. ⌜ now (reals .exit) ≡ editReals (now (room .entry)) (now (words .entry)) (now (reals .entry)) true 2 id [] ⌝ }
+    ensures answer { λ r. ⌜ r ≡ editNumber (now (room .entry)) (now (words .entry)) (now (reals .entry)) true SHELLS id ⌝ }
+    ensures tables { λ _. ⌜ now (words .exit) ≡ editWords (now (room .entry)) (now (words .entry)) (now (reals .entry)) true SHELLS id 0 (shellFields region) ⌝ }
+    ensures floats { λ _. ⌜ now (reals .exit) ≡ editReals (now (room .entry)) (now (words .entry)) (now (reals .entry)) true SHELLS id [] ⌝ }
 {
     let fields = [region];
-    set_fields(room, words, reals, 2, id, 0, &fields)
+    set_fields(room, words, reals, SHELLS, id, 0, &fields)
 }
 
 pub fn set_loop(
@@ -50,20 +55,20 @@ pub fn set_loop(
     id: usize,
     face: u32,
 ) -> u32
-    ensures answer { λ r. ⌜ r ≡ editNumber (now (room .entry)) (now (words .entry)) (now (reals .entry)) true 4 id ⌝ }
-    ensures tables { λ _. ⌜ now (words .exit) ≡ editWords (now (room .entry)) (now (words .entry)) (now (reals .entry)) true 4 id 0 (loopFields face) ⌝ }
-    ensures floats { λ _. ⌜ now (reals .exit) ≡ editReals (now (room .entry)) (now (words .entry)) (now (reals .entry)) true 4 id [] ⌝ }
+    ensures answer { λ r. ⌜ r ≡ editNumber (now (room .entry)) (now (words .entry)) (now (reals .entry)) true LOOPS id ⌝ }
+    ensures tables { λ _. ⌜ now (words .exit) ≡ editWords (now (room .entry)) (now (words .entry)) (now (reals .entry)) true LOOPS id 0 (loopFields face) ⌝ }
+    ensures floats { λ _. ⌜ now (reals .exit) ≡ editReals (now (room .entry)) (now (words .entry)) (now (reals .entry)) true LOOPS id [] ⌝ }
 {
     let fields = [face];
-    set_fields(room, words, reals, 4, id, 0, &fields)
+    set_fields(room, words, reals, LOOPS, id, 0, &fields)
 }
 
 // The mark of a fin that has a pcurve; its other fields are kept.
 pub fn set_fin_geometry(room: &[usize; 10], words: &mut [u32], reals: &mut [f64], id: usize) -> u32
-    ensures answer { λ r. ⌜ r ≡ editNumber (now (room .entry)) (now (words .entry)) (now (reals .entry)) true 5 id ⌝ }
-    ensures tables { λ _. ⌜ now (words .exit) ≡ editWords (now (room .entry)) (now (words .entry)) (now (reals .entry)) true 5 id 3 (mark true ∷ []) ⌝ }
-    ensures floats { λ _. ⌜ now (reals .exit) ≡ editReals (now (room .entry)) (now (words .entry)) (now (reals .entry)) true 5 id [] ⌝ }
+    ensures answer { λ r. ⌜ r ≡ editNumber (now (room .entry)) (now (words .entry)) (now (reals .entry)) true FINS id ⌝ }
+    ensures tables { λ _. ⌜ now (words .exit) ≡ editWords (now (room .entry)) (now (words .entry)) (now (reals .entry)) true FINS id AT-FIN-PCURVE (mark true ∷ []) ⌝ }
+    ensures floats { λ _. ⌜ now (reals .exit) ≡ editReals (now (room .entry)) (now (words .entry)) (now (reals .entry)) true FINS id [] ⌝ }
 {
     let fields = [1];
-    set_fields(room, words, reals, 5, id, 3, &fields)
+    set_fields(room, words, reals, FINS, id, AT_FIN_PCURVE, &fields)
 }

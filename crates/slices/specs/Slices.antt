@@ -10,6 +10,7 @@ use Rattle.store.specs.Queries.{planeRefusal, thePlane}
 use Rattle.signs.specs.Signs.{offPlaneS}
 use Rattle.meaning.specs.Model.{surface}
 use Rattle.meaning.specs.Split.{within}
+use Rattle.model.specs.Names.{FACES, AT-FACE-SURFACE, AT-FACE-SURFACE-ID}
 use Rattle.model.specs.Layout.{word, wordsOf}
 use Rattle.model.specs.Decode.{flagAt, decode}
 use Rattle.slices.specs.declared.Cut.{Cut}
@@ -29,6 +30,6 @@ module _ (room w : List ℕ) (x : List Float) where
   -- "face missing 2; no surface 1; surface missing 2; .."
   unfoldable pub faceTest : Cut → ℕ → ℕ
   faceTest c f =
-      2 unless ltb f (word w 3)
-      then 1 unless flagAt (wordsOf room w 3 f) 4
-      then planeTest (surface (decode room w x) (word (wordsOf room w 3 f) 5)) c
+      2 unless ltb f (word w FACES)
+      then 1 unless flagAt (wordsOf room w FACES f) AT-FACE-SURFACE
+      then planeTest (surface (decode room w x) (word (wordsOf room w FACES f) AT-FACE-SURFACE-ID)) c

@@ -2,6 +2,9 @@
 use fetched::carriers::surface_found;
 use geometry::surface::Plane;
 use model::layout::words_of;
+use model::names::AT_FACE_SURFACE;
+use model::names::AT_FACE_SURFACE_ID;
+use model::names::FACES;
 use numbers::Sign;
 use offsets::off_plane;
 use segments::refusals::then;
@@ -60,10 +63,13 @@ pub fn face_refusal(room: &[usize; 10], words: &[u32], reals: &[f64], face: usiz
     requires { ⌜ Sized (now room) (now words) (now reals) ⌝ }
     ensures { λ r. ⌜ r ≡ faceTest (now (room .entry)) (now (words .entry)) (now (reals .entry)) cut face ⌝ }
 {
-    if words[3] as usize <= face {
+    if words[FACES] as usize <= face {
         return 2;
     }
-    let w = words_of(room, words, 3, face);
-    let plane = plane_refusal(surface_found(room, words, reals, w[5] as usize), cut);
-    then(unless(1, w[4] != 0), plane)
+    let w = words_of(room, words, FACES, face);
+    let plane = plane_refusal(
+        surface_found(room, words, reals, w[AT_FACE_SURFACE_ID] as usize),
+        cut,
+    );
+    then(unless(1, w[AT_FACE_SURFACE] != 0), plane)
 }

@@ -5,6 +5,7 @@ use mathlib.Core.List.{List}
 use lib.Ieee.{Float}
 use Rattle.geometry.specs.Refuse.{answer}
 use Rattle.meaning.specs.Split.{splitPoint}
+use Rattle.model.specs.Names.{EDGES, VERTICES, FLOAT-EDGE-TOLERANCE}
 use Rattle.model.specs.Layout.{word, real, realsOf}
 use Rattle.model.specs.Decode.{decode}
 use Rattle.frame.specs.Put.{unlessRefused}
@@ -16,13 +17,13 @@ use Rattle.replies.specs.declared.Split.the-variants.{Is, Refused}
 
 -- all floats: the edge's own tolerance for the new edge and the new vertex, "lo + (hi - lo)·fraction" on its line for the point
 unfoldable pub realsSplit : List ℕ → List ℕ → List Float → ℕ → Float → List Float
-realsSplit room w x e t = floatsPut room (word w 6) (word w 7) (splitPoint (decode room w x) e t) (real (realsOf room x 6 e) 0) x
+realsSplit room w x e t = floatsPut room (word w EDGES) (word w VERTICES) (splitPoint (decode room w x) e t) (real (realsOf room x EDGES e) FLOAT-EDGE-TOLERANCE) x
 
 -- ---- the call: 9, the thirteen tests, then the writing
 
 module _ (room w : List ℕ) (x : List Float) (e : ℕ) (t : Float) where
   unfoldable pub splitAnswer : Split
-  splitAnswer = answer Is Refused (splitNumber room w x e t) (record { «original_edge» = e; «new_edge» = word w 6; vertex = word w 7 })
+  splitAnswer = answer Is Refused (splitNumber room w x e t) (record { «original_edge» = e; «new_edge» = word w EDGES; vertex = word w VERTICES })
 
   unfoldable pub splitWords : List ℕ
   splitWords = unlessRefused (splitNumber room w x e t) (wordsSplit room w e) w

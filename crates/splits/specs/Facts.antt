@@ -4,6 +4,7 @@ use mathlib.Core.Path.{_≡_}
 use mathlib.Core.List.{List}
 use lib.ListN.{length}
 use lib.Ieee.{Float}
+use Rattle.model.specs.Names.{EDGES, VERTICES}
 use Rattle.model.specs.Layout.{word}
 use Rattle.model.specs.Decode.{decode}
 use Rattle.model.specs.Fit.{Fit}
@@ -14,6 +15,6 @@ pub record Open (room w : List ℕ) (x : List Float) (e : ℕ) : Type 0 where
   pub fit : Fit room w x
   pub ends : endsRefusal (decode room w x) e ≡ 0
   pub counts : 10 ≤ length w
-  pub there : e < word w 6
-  pub edges : word w 6 < word room 6
-  pub vertices : word w 7 < word room 7
+  pub there : e < word w EDGES
+  pub edges : word w EDGES < word room EDGES
+  pub vertices : word w VERTICES < word room VERTICES

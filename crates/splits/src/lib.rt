@@ -3,6 +3,8 @@
 pub mod point;
 
 use crate::point::write_floats;
+use model::names::EDGES;
+use model::names::VERTICES;
 use replies::EdgeSplit;
 use replies::Split;
 use seams::write_split;
@@ -28,8 +30,8 @@ pub fn split_line_edge(
     }
     let split = EdgeSplit {
         original_edge: edge as u32,
-        new_edge: words[6],
-        vertex: words[7],
+        new_edge: words[EDGES],
+        vertex: words[VERTICES],
     };
     write_floats(room, &words[..], reals, edge, fraction);
     write_split(room, words, edge);

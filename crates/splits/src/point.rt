@@ -2,11 +2,15 @@
 use added::floats::put_floats;
 use cuts::cut_of;
 use model::layout::reals_of;
+use model::names::EDGES;
+use model::names::FLOAT_EDGE_TOLERANCE;
+use model::names::VERTICES;
 use straight::segment_at;
 use vectors::vector::Point3;
 ghost use mathlib.Core.Path.{_≡_};
 ghost use Prim.Native.Nat.{_<_};
 ghost use Rattle.meaning.specs.Split.{splitPoint};
+ghost use Rattle.model.specs.Names.{EDGES, FLOAT-EDGE-TOLERANCE};
 ghost use Rattle.model.specs.Layout.{word, real, realsOf};
 ghost use Rattle.model.specs.Decode.{decode};
 ghost use Rattle.model.specs.Fit.{Fit};
@@ -34,11 +38,11 @@ fn split_point(
 // The edge's own tolerance, whatever its tag says.
 fn own_float(room: &[usize; 10], words: &[u32], reals: &[f64], edge: usize) -> f64
     requires { ⌜ Fit (now room) (now words) (now reals) ⌝ }
-    requires { ⌜ edge < word (now words) 6 ⌝ }
-    ensures { λ r. ⌜ r ≡ real (realsOf (now (room .entry)) (now (reals .entry)) 6 edge) 0 ⌝ }
+    requires { ⌜ edge < word (now words) EDGES ⌝ }
+    ensures { λ r. ⌜ r ≡ real (realsOf (now (room .entry)) (now (reals .entry)) EDGES edge) FLOAT-EDGE-TOLERANCE ⌝ }
 {
-    let x = reals_of(room, reals, 6, edge);
-    x[0]
+    let x = reals_of(room, reals, EDGES, edge);
+    x[FLOAT_EDGE_TOLERANCE]
 }
 
 // The floats of the new edge and vertex.
@@ -54,7 +58,7 @@ pub fn write_floats(
 {
     let p = split_point(room, words, &reals[..], edge, fraction);
     let t = own_float(room, words, &reals[..], edge);
-    let new_edge = words[6] as usize;
-    let vertex = words[7] as usize;
+    let new_edge = words[EDGES] as usize;
+    let vertex = words[VERTICES] as usize;
     put_floats(room, reals, new_edge, vertex, p, t);
 }

@@ -8,13 +8,14 @@ use Rattle.geometry.specs.Refuse.{_unless_, _then_}
 use Rattle.meaning.specs.Lists.{the}
 use Rattle.meaning.specs.Model.{Model, pointOf}
 use Rattle.meaning.specs.Inquire.{startOf}
+use Rattle.model.specs.Names.{FINS, EDGES, VERTICES, AT-FIN-SENSE, AT-EDGE-START, AT-EDGE-END}
 use Rattle.model.specs.Layout.{word, wordsOf}
 use Rattle.model.specs.Decode.{flagAt}
 use Rattle.parts.specs.Parts.{finEdge}
 
 -- where an edge's words have the start of a fin, by the fin's sense
 unfoldable pub startPlace : ℕ → ℕ
-startPlace sense = cond (eqb sense 0) 0 2
+startPlace sense = cond (eqb sense 0) AT-EDGE-START AT-EDGE-END
 
 -- an end at a place of an edge's words: none 7, its vertex missing 2
 unfoldable pub endNumber : List ℕ → ℕ → ℕ → ℕ
@@ -27,15 +28,15 @@ startPoint m i = pointOf m (the (startOf m i))
 module _ (room w : List ℕ) where
   -- `startRefusal` of meaning
   unfoldable pub startNumber : ℕ → ℕ
-  startNumber i = endNumber (wordsOf room w 6 (finEdge room w i)) (startPlace (word (wordsOf room w 5 i) 2)) (word w 7)
+  startNumber i = endNumber (wordsOf room w EDGES (finEdge room w i)) (startPlace (word (wordsOf room w FINS i) AT-FIN-SENSE)) (word w VERTICES)
 
   unfoldable pub startId : ℕ → ℕ
-  startId i = word (wordsOf room w 6 (finEdge room w i)) (startPlace (word (wordsOf room w 5 i) 2) + 1)
+  startId i = word (wordsOf room w EDGES (finEdge room w i)) (startPlace (word (wordsOf room w FINS i) AT-FIN-SENSE) + 1)
 
   -- the fin and its edge exist
   unfoldable pub finWhole : ℕ → Bool
-  finWhole i = ltb i (word w 5) && ltb (finEdge room w i) (word w 6)
+  finWhole i = ltb i (word w FINS) && ltb (finEdge room w i) (word w EDGES)
 
   pub record Whole (i : ℕ) : Type 0 where
-    pub fin : i < word w 5
-    pub edge : finEdge room w i < word w 6
+    pub fin : i < word w FINS
+    pub edge : finEdge room w i < word w EDGES

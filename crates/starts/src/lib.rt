@@ -2,6 +2,13 @@
 // sense, pcurve mark; an edge's begin with start tag, id, end tag, id.
 use fetched::vertex_at;
 use model::layout::words_of;
+use model::names::AT_EDGE_END;
+use model::names::AT_EDGE_START;
+use model::names::AT_FIN_EDGE;
+use model::names::AT_FIN_SENSE;
+use model::names::EDGES;
+use model::names::FINS;
+use model::names::VERTICES;
 use polygons::put_point;
 use segments::refusals::then;
 use segments::refusals::unless;
@@ -13,6 +20,7 @@ ghost use Prim.Native.Nat.{_+_, _*_, _≤_};
 ghost use lib.ListN.{length, take};
 ghost use Rattle.meaning.specs.Lists.{all};
 ghost use Rattle.meaning.specs.Refuse.{firstOf};
+ghost use Rattle.model.specs.Names.{FINS, EDGES, AT-FIN-SENSE};
 ghost use Rattle.model.specs.Layout.{word, wordsOf};
 ghost use Rattle.model.specs.Decode.{decode};
 ghost use Rattle.model.specs.Fit.{Fit, Lists};
@@ -25,9 +33,9 @@ fn start_place(sense: u32) -> usize
     ensures { λ r. ⌜ (r ≡ startPlace sense) × (r ≤ 2) ⌝ }
 {
     if sense == 0 {
-        return 0;
+        return AT_EDGE_START;
     }
-    2
+    AT_EDGE_END
 }
 
 // The end at a place of an edge's words: none 7, its vertex missing 2.
@@ -42,19 +50,19 @@ fn end_refusal(edge: &[u32], at: usize, used: u32) -> u32
 fn edge_of<'a>(room: &[usize; 10], words: &'a [u32], i: usize) -> &'a [u32]
     requires { ⌜ Lists (now room) (now words) ⌝ }
     requires { ⌜ Whole (now room) (now words) i ⌝ }
-    ensures { λ r. ⌜ now r ≡ wordsOf (now (room .entry)) (now (words .entry)) 6 (finEdge (now (room .entry)) (now (words .entry)) i) ⌝ }
+    ensures { λ r. ⌜ now r ≡ wordsOf (now (room .entry)) (now (words .entry)) EDGES (finEdge (now (room .entry)) (now (words .entry)) i) ⌝ }
 {
-    let fin = words_of(room, words, 5, i);
-    words_of(room, words, 6, fin[1] as usize)
+    let fin = words_of(room, words, FINS, i);
+    words_of(room, words, EDGES, fin[AT_FIN_EDGE] as usize)
 }
 
 fn place_of(room: &[usize; 10], words: &[u32], i: usize) -> usize
     requires { ⌜ Lists (now room) (now words) ⌝ }
     requires { ⌜ Whole (now room) (now words) i ⌝ }
-    ensures { λ r. ⌜ (r ≡ startPlace (word (wordsOf (now (room .entry)) (now (words .entry)) 5 i) 2)) × (r ≤ 2) ⌝ }
+    ensures { λ r. ⌜ (r ≡ startPlace (word (wordsOf (now (room .entry)) (now (words .entry)) FINS i) AT-FIN-SENSE)) × (r ≤ 2) ⌝ }
 {
-    let fin = words_of(room, words, 5, i);
-    start_place(fin[2])
+    let fin = words_of(room, words, FINS, i);
+    start_place(fin[AT_FIN_SENSE])
 }
 
 // The start of a fin: none 7, its vertex missing 2.
@@ -64,7 +72,7 @@ fn start_refusal(room: &[usize; 10], words: &[u32], i: usize) -> u32
     ensures { λ r. ⌜ r ≡ startNumber (now (room .entry)) (now (words .entry)) i ⌝ }
 {
     let at = place_of(room, words, i);
-    end_refusal(edge_of(room, words, i), at, words[7])
+    end_refusal(edge_of(room, words, i), at, words[VERTICES])
 }
 
 // The first refusal among the fins.

@@ -2,6 +2,7 @@
 ghost use mathlib.Core.Path.{_≡_};
 ghost use mathlib.Core.Bool.{true};
 ghost use mathlib.Core.List.{[], _∷_};
+ghost use Rattle.model.specs.Names.{BODIES, REGIONS, SHELLS, FACES, LOOPS, FINS, EDGES, VERTICES, CURVES, SURFACES};
 ghost use Rattle.model.specs.Layout.{word};
 ghost use Rattle.frame.specs.Put.{unlessRefused};
 ghost use Rattle.edits.specs.Answers.{insertNumber, insertWords, insertReals};
@@ -16,10 +17,10 @@ pub extern "C" fn brunskerl_insert_body(
     value: &[u32; 1],
     id: &mut [u32; 1],
 ) -> u32
-    ensures answer { λ r. ⌜ r ≡ lent insertNumber room words reals (bodyKnown (was value)) 0 ⌝ }
-    ensures slots { λ r. ⌜ now (id .exit) ≡ unlessRefused r (word (was words) 0 ∷ []) (was id) ⌝ }
-    ensures tables { λ _. ⌜ now (words .exit) ≡ lent insertWords room words reals (bodyKnown (was value)) 0 (bodyGiven (was value)) ⌝ }
-    ensures floats { λ _. ⌜ now (reals .exit) ≡ lent insertReals room words reals (bodyKnown (was value)) 0 [] ⌝ }
+    ensures answer { λ r. ⌜ r ≡ lent insertNumber room words reals (bodyKnown (was value)) BODIES ⌝ }
+    ensures slots { λ r. ⌜ now (id .exit) ≡ unlessRefused r (word (was words) BODIES ∷ []) (was id) ⌝ }
+    ensures tables { λ _. ⌜ now (words .exit) ≡ lent insertWords room words reals (bodyKnown (was value)) BODIES (bodyGiven (was value)) ⌝ }
+    ensures floats { λ _. ⌜ now (reals .exit) ≡ lent insertReals room words reals (bodyKnown (was value)) BODIES [] ⌝ }
 {
     additions::body(room, words, reals, value, id)
 }
@@ -32,10 +33,10 @@ pub extern "C" fn brunskerl_insert_region(
     value: &[u32; 2],
     id: &mut [u32; 1],
 ) -> u32
-    ensures answer { λ r. ⌜ r ≡ lent insertNumber room words reals (regionKnown (was value)) 1 ⌝ }
-    ensures slots { λ r. ⌜ now (id .exit) ≡ unlessRefused r (word (was words) 1 ∷ []) (was id) ⌝ }
-    ensures tables { λ _. ⌜ now (words .exit) ≡ lent insertWords room words reals (regionKnown (was value)) 1 (regionGiven (was value)) ⌝ }
-    ensures floats { λ _. ⌜ now (reals .exit) ≡ lent insertReals room words reals (regionKnown (was value)) 1 [] ⌝ }
+    ensures answer { λ r. ⌜ r ≡ lent insertNumber room words reals (regionKnown (was value)) REGIONS ⌝ }
+    ensures slots { λ r. ⌜ now (id .exit) ≡ unlessRefused r (word (was words) REGIONS ∷ []) (was id) ⌝ }
+    ensures tables { λ _. ⌜ now (words .exit) ≡ lent insertWords room words reals (regionKnown (was value)) REGIONS (regionGiven (was value)) ⌝ }
+    ensures floats { λ _. ⌜ now (reals .exit) ≡ lent insertReals room words reals (regionKnown (was value)) REGIONS [] ⌝ }
 {
     additions::region(room, words, reals, value, id)
 }
@@ -48,10 +49,10 @@ pub extern "C" fn brunskerl_insert_shell(
     value: &[u32; 1],
     id: &mut [u32; 1],
 ) -> u32
-    ensures answer { λ r. ⌜ r ≡ lent insertNumber room words reals true 2 ⌝ }
-    ensures slots { λ r. ⌜ now (id .exit) ≡ unlessRefused r (word (was words) 2 ∷ []) (was id) ⌝ }
-    ensures tables { λ _. ⌜ now (words .exit) ≡ lent insertWords room words reals true 2 (shellGiven (was value)) ⌝ }
-    ensures floats { λ _. ⌜ now (reals .exit) ≡ lent insertReals room words reals true 2 [] ⌝ }
+    ensures answer { λ r. ⌜ r ≡ lent insertNumber room words reals true SHELLS ⌝ }
+    ensures slots { λ r. ⌜ now (id .exit) ≡ unlessRefused r (word (was words) SHELLS ∷ []) (was id) ⌝ }
+    ensures tables { λ _. ⌜ now (words .exit) ≡ lent insertWords room words reals true SHELLS (shellGiven (was value)) ⌝ }
+    ensures floats { λ _. ⌜ now (reals .exit) ≡ lent insertReals room words reals true SHELLS [] ⌝ }
 {
     additions::shell(room, words, reals, value, id)
 }
@@ -64,10 +65,10 @@ pub extern "C" fn brunskerl_insert_face(
     value: &[u32; 7],
     id: &mut [u32; 1],
 ) -> u32
-    ensures answer { λ r. ⌜ r ≡ lent insertNumber room words reals (faceKnown (was value)) 3 ⌝ }
-    ensures slots { λ r. ⌜ now (id .exit) ≡ unlessRefused r (word (was words) 3 ∷ []) (was id) ⌝ }
-    ensures tables { λ _. ⌜ now (words .exit) ≡ lent insertWords room words reals (faceKnown (was value)) 3 (faceGiven (was value)) ⌝ }
-    ensures floats { λ _. ⌜ now (reals .exit) ≡ lent insertReals room words reals (faceKnown (was value)) 3 [] ⌝ }
+    ensures answer { λ r. ⌜ r ≡ lent insertNumber room words reals (faceKnown (was value)) FACES ⌝ }
+    ensures slots { λ r. ⌜ now (id .exit) ≡ unlessRefused r (word (was words) FACES ∷ []) (was id) ⌝ }
+    ensures tables { λ _. ⌜ now (words .exit) ≡ lent insertWords room words reals (faceKnown (was value)) FACES (faceGiven (was value)) ⌝ }
+    ensures floats { λ _. ⌜ now (reals .exit) ≡ lent insertReals room words reals (faceKnown (was value)) FACES [] ⌝ }
 {
     additions::face(room, words, reals, value, id)
 }
@@ -80,10 +81,10 @@ pub extern "C" fn brunskerl_insert_loop(
     value: &[u32; 1],
     id: &mut [u32; 1],
 ) -> u32
-    ensures answer { λ r. ⌜ r ≡ lent insertNumber room words reals true 4 ⌝ }
-    ensures slots { λ r. ⌜ now (id .exit) ≡ unlessRefused r (word (was words) 4 ∷ []) (was id) ⌝ }
-    ensures tables { λ _. ⌜ now (words .exit) ≡ lent insertWords room words reals true 4 (loopGiven (was value)) ⌝ }
-    ensures floats { λ _. ⌜ now (reals .exit) ≡ lent insertReals room words reals true 4 [] ⌝ }
+    ensures answer { λ r. ⌜ r ≡ lent insertNumber room words reals true LOOPS ⌝ }
+    ensures slots { λ r. ⌜ now (id .exit) ≡ unlessRefused r (word (was words) LOOPS ∷ []) (was id) ⌝ }
+    ensures tables { λ _. ⌜ now (words .exit) ≡ lent insertWords room words reals true LOOPS (loopGiven (was value)) ⌝ }
+    ensures floats { λ _. ⌜ now (reals .exit) ≡ lent insertReals room words reals true LOOPS [] ⌝ }
 {
     additions::loop_(room, words, reals, value, id)
 }
@@ -96,10 +97,10 @@ pub extern "C" fn brunskerl_insert_fin(
     value: &[u32; 4],
     id: &mut [u32; 1],
 ) -> u32
-    ensures answer { λ r. ⌜ r ≡ lent insertNumber room words reals (finKnown (was value)) 5 ⌝ }
-    ensures slots { λ r. ⌜ now (id .exit) ≡ unlessRefused r (word (was words) 5 ∷ []) (was id) ⌝ }
-    ensures tables { λ _. ⌜ now (words .exit) ≡ lent insertWords room words reals (finKnown (was value)) 5 (finGiven (was value)) ⌝ }
-    ensures floats { λ _. ⌜ now (reals .exit) ≡ lent insertReals room words reals (finKnown (was value)) 5 [] ⌝ }
+    ensures answer { λ r. ⌜ r ≡ lent insertNumber room words reals (finKnown (was value)) FINS ⌝ }
+    ensures slots { λ r. ⌜ now (id .exit) ≡ unlessRefused r (word (was words) FINS ∷ []) (was id) ⌝ }
+    ensures tables { λ _. ⌜ now (words .exit) ≡ lent insertWords room words reals (finKnown (was value)) FINS (finGiven (was value)) ⌝ }
+    ensures floats { λ _. ⌜ now (reals .exit) ≡ lent insertReals room words reals (finKnown (was value)) FINS [] ⌝ }
 {
     additions::fin(room, words, reals, value, id)
 }
@@ -113,10 +114,10 @@ pub extern "C" fn brunskerl_insert_edge(
     floats: &[f64; 1],
     id: &mut [u32; 1],
 ) -> u32
-    ensures answer { λ r. ⌜ r ≡ lent insertNumber room words reals (edgeGood (was value) (was floats)) 6 ⌝ }
-    ensures slots { λ r. ⌜ now (id .exit) ≡ unlessRefused r (word (was words) 6 ∷ []) (was id) ⌝ }
-    ensures tables { λ _. ⌜ now (words .exit) ≡ lent insertWords room words reals (edgeGood (was value) (was floats)) 6 (edgeGiven (was value) (was floats)) ⌝ }
-    ensures floats { λ _. ⌜ now (reals .exit) ≡ lent insertReals room words reals (edgeGood (was value) (was floats)) 6 (edgeOwn (was value) (was floats)) ⌝ }
+    ensures answer { λ r. ⌜ r ≡ lent insertNumber room words reals (edgeGood (was value) (was floats)) EDGES ⌝ }
+    ensures slots { λ r. ⌜ now (id .exit) ≡ unlessRefused r (word (was words) EDGES ∷ []) (was id) ⌝ }
+    ensures tables { λ _. ⌜ now (words .exit) ≡ lent insertWords room words reals (edgeGood (was value) (was floats)) EDGES (edgeGiven (was value) (was floats)) ⌝ }
+    ensures floats { λ _. ⌜ now (reals .exit) ≡ lent insertReals room words reals (edgeGood (was value) (was floats)) EDGES (edgeOwn (was value) (was floats)) ⌝ }
 {
     bearers::edge(room, words, reals, value, floats, id)
 }
@@ -130,10 +131,10 @@ pub extern "C" fn brunskerl_insert_vertex(
     floats: &[f64; 4],
     id: &mut [u32; 1],
 ) -> u32
-    ensures answer { λ r. ⌜ r ≡ lent insertNumber room words reals (vertexGood (was value) (was floats)) 7 ⌝ }
-    ensures slots { λ r. ⌜ now (id .exit) ≡ unlessRefused r (word (was words) 7 ∷ []) (was id) ⌝ }
-    ensures tables { λ _. ⌜ now (words .exit) ≡ lent insertWords room words reals (vertexGood (was value) (was floats)) 7 (vertexGiven (was value) (was floats)) ⌝ }
-    ensures floats { λ _. ⌜ now (reals .exit) ≡ lent insertReals room words reals (vertexGood (was value) (was floats)) 7 (vertexOwn (was value) (was floats)) ⌝ }
+    ensures answer { λ r. ⌜ r ≡ lent insertNumber room words reals (vertexGood (was value) (was floats)) VERTICES ⌝ }
+    ensures slots { λ r. ⌜ now (id .exit) ≡ unlessRefused r (word (was words) VERTICES ∷ []) (was id) ⌝ }
+    ensures tables { λ _. ⌜ now (words .exit) ≡ lent insertWords room words reals (vertexGood (was value) (was floats)) VERTICES (vertexGiven (was value) (was floats)) ⌝ }
+    ensures floats { λ _. ⌜ now (reals .exit) ≡ lent insertReals room words reals (vertexGood (was value) (was floats)) VERTICES (vertexOwn (was value) (was floats)) ⌝ }
 {
     bearers::vertex(room, words, reals, value, floats, id)
 }
@@ -147,10 +148,10 @@ pub extern "C" fn brunskerl_insert_curve(
     floats: &[f64; 6],
     id: &mut [u32; 1],
 ) -> u32
-    ensures answer { λ r. ⌜ r ≡ lent insertNumber room words reals (carrierKnown (was value)) 8 ⌝ }
-    ensures slots { λ r. ⌜ now (id .exit) ≡ unlessRefused r (word (was words) 8 ∷ []) (was id) ⌝ }
-    ensures tables { λ _. ⌜ now (words .exit) ≡ lent insertWords room words reals (carrierKnown (was value)) 8 (carrierGiven (was value) (was floats)) ⌝ }
-    ensures floats { λ _. ⌜ now (reals .exit) ≡ lent insertReals room words reals (carrierKnown (was value)) 8 (carrierOwn (was value) (was floats)) ⌝ }
+    ensures answer { λ r. ⌜ r ≡ lent insertNumber room words reals (carrierKnown (was value)) CURVES ⌝ }
+    ensures slots { λ r. ⌜ now (id .exit) ≡ unlessRefused r (word (was words) CURVES ∷ []) (was id) ⌝ }
+    ensures tables { λ _. ⌜ now (words .exit) ≡ lent insertWords room words reals (carrierKnown (was value)) CURVES (carrierGiven (was value) (was floats)) ⌝ }
+    ensures floats { λ _. ⌜ now (reals .exit) ≡ lent insertReals room words reals (carrierKnown (was value)) CURVES (carrierOwn (was value) (was floats)) ⌝ }
 {
     additions::curve(room, words, reals, value, floats, id)
 }
@@ -164,10 +165,10 @@ pub extern "C" fn brunskerl_insert_surface(
     floats: &[f64; 6],
     id: &mut [u32; 1],
 ) -> u32
-    ensures answer { λ r. ⌜ r ≡ lent insertNumber room words reals (carrierKnown (was value)) 9 ⌝ }
-    ensures slots { λ r. ⌜ now (id .exit) ≡ unlessRefused r (word (was words) 9 ∷ []) (was id) ⌝ }
-    ensures tables { λ _. ⌜ now (words .exit) ≡ lent insertWords room words reals (carrierKnown (was value)) 9 (carrierGiven (was value) (was floats)) ⌝ }
-    ensures floats { λ _. ⌜ now (reals .exit) ≡ lent insertReals room words reals (carrierKnown (was value)) 9 (carrierOwn (was value) (was floats)) ⌝ }
+    ensures answer { λ r. ⌜ r ≡ lent insertNumber room words reals (carrierKnown (was value)) SURFACES ⌝ }
+    ensures slots { λ r. ⌜ now (id .exit) ≡ unlessRefused r (word (was words) SURFACES ∷ []) (was id) ⌝ }
+    ensures tables { λ _. ⌜ now (words .exit) ≡ lent insertWords room words reals (carrierKnown (was value)) SURFACES (carrierGiven (was value) (was floats)) ⌝ }
+    ensures floats { λ _. ⌜ now (reals .exit) ≡ lent insertReals room words reals (carrierKnown (was value)) SURFACES (carrierOwn (was value) (was floats)) ⌝ }
 {
     additions::surface(room, words, reals, value, floats, id)
 }

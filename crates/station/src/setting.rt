@@ -6,6 +6,7 @@ ghost use Rattle.edits.specs.Answers.{editNumber, editWords, editReals};
 ghost use Rattle.lent.specs.Lent.{was, lent};
 ghost use Rattle.crossings.specs.Given.{bodyKnown, regionKnown, faceKnown, finKnown, carrierKnown, edgeGood, vertexGood, bodyGiven, regionGiven, shellGiven, faceGiven, loopGiven, finGiven, edgeGiven, vertexGiven, carrierGiven, edgeOwn, vertexOwn, carrierOwn};
 ghost use Rattle.coded.specs.Tags.{mark};
+ghost use Rattle.model.specs.Names.{BODIES, REGIONS, SHELLS, FACES, LOOPS, FINS, EDGES, VERTICES, CURVES, SURFACES, AT-FIN-PCURVE};
 
 #[no_mangle]
 pub extern "C" fn brunskerl_set_body(
@@ -15,9 +16,9 @@ pub extern "C" fn brunskerl_set_body(
     id: usize,
     value: &[u32; 1],
 ) -> u32
-    ensures answer { λ r. ⌜ r ≡ lent editNumber room words reals (bodyKnown (was value)) 0 id ⌝ }
-    ensures tables { λ _. ⌜ now (words .exit) ≡ lent editWords room words reals (bodyKnown (was value)) 0 id 0 (bodyGiven (was value)) ⌝ }
-    ensures floats { λ _. ⌜ now (reals .exit) ≡ lent editReals room words reals (bodyKnown (was value)) 0 id [] ⌝ }
+    ensures answer { λ r. ⌜ r ≡ lent editNumber room words reals (bodyKnown (was value)) BODIES id ⌝ }
+    ensures tables { λ _. ⌜ now (words .exit) ≡ lent editWords room words reals (bodyKnown (was value)) BODIES id 0 (bodyGiven (was value)) ⌝ }
+    ensures floats { λ _. ⌜ now (reals .exit) ≡ lent editReals room words reals (bodyKnown (was value)) BODIES id [] ⌝ }
 {
     changes::body(room, words, reals, id, value)
 }
@@ -30,9 +31,9 @@ pub extern "C" fn brunskerl_set_region(
     id: usize,
     value: &[u32; 2],
 ) -> u32
-    ensures answer { λ r. ⌜ r ≡ lent editNumber room words reals (regionKnown (was value)) 1 id ⌝ }
-    ensures tables { λ _. ⌜ now (words .exit) ≡ lent editWords room words reals (regionKnown (was value)) 1 id 0 (regionGiven (was value)) ⌝ }
-    ensures floats { λ _. ⌜ now (reals .exit) ≡ lent editReals room words reals (regionKnown (was value)) 1 id [] ⌝ }
+    ensures answer { λ r. ⌜ r ≡ lent editNumber room words reals (regionKnown (was value)) REGIONS id ⌝ }
+    ensures tables { λ _. ⌜ now (words .exit) ≡ lent editWords room words reals (regionKnown (was value)) REGIONS id 0 (regionGiven (was value)) ⌝ }
+    ensures floats { λ _. ⌜ now (reals .exit) ≡ lent editReals room words reals (regionKnown (was value)) REGIONS id [] ⌝ }
 {
     changes::region(room, words, reals, id, value)
 }
@@ -45,9 +46,9 @@ pub extern "C" fn brunskerl_set_shell(
     id: usize,
     value: &[u32; 1],
 ) -> u32
-    ensures answer { λ r. ⌜ r ≡ lent editNumber room words reals true 2 id ⌝ }
-    ensures tables { λ _. ⌜ now (words .exit) ≡ lent editWords room words reals true 2 id 0 (shellGiven (was value)) ⌝ }
-    ensures floats { λ _. ⌜ now (reals .exit) ≡ lent editReals room words reals true 2 id [] ⌝ }
+    ensures answer { λ r. ⌜ r ≡ lent editNumber room words reals true SHELLS id ⌝ }
+    ensures tables { λ _. ⌜ now (words .exit) ≡ lent editWords room words reals true SHELLS id 0 (shellGiven (was value)) ⌝ }
+    ensures floats { λ _. ⌜ now (reals .exit) ≡ lent editReals room words reals true SHELLS id [] ⌝ }
 {
     changes::shell(room, words, reals, id, value)
 }
@@ -60,9 +61,9 @@ pub extern "C" fn brunskerl_set_face(
     id: usize,
     value: &[u32; 7],
 ) -> u32
-    ensures answer { λ r. ⌜ r ≡ lent editNumber room words reals (faceKnown (was value)) 3 id ⌝ }
-    ensures tables { λ _. ⌜ now (words .exit) ≡ lent editWords room words reals (faceKnown (was value)) 3 id 0 (faceGiven (was value)) ⌝ }
-    ensures floats { λ _. ⌜ now (reals .exit) ≡ lent editReals room words reals (faceKnown (was value)) 3 id [] ⌝ }
+    ensures answer { λ r. ⌜ r ≡ lent editNumber room words reals (faceKnown (was value)) FACES id ⌝ }
+    ensures tables { λ _. ⌜ now (words .exit) ≡ lent editWords room words reals (faceKnown (was value)) FACES id 0 (faceGiven (was value)) ⌝ }
+    ensures floats { λ _. ⌜ now (reals .exit) ≡ lent editReals room words reals (faceKnown (was value)) FACES id [] ⌝ }
 {
     senses::face(room, words, reals, id, value)
 }
@@ -75,9 +76,9 @@ pub extern "C" fn brunskerl_set_loop(
     id: usize,
     value: &[u32; 1],
 ) -> u32
-    ensures answer { λ r. ⌜ r ≡ lent editNumber room words reals true 4 id ⌝ }
-    ensures tables { λ _. ⌜ now (words .exit) ≡ lent editWords room words reals true 4 id 0 (loopGiven (was value)) ⌝ }
-    ensures floats { λ _. ⌜ now (reals .exit) ≡ lent editReals room words reals true 4 id [] ⌝ }
+    ensures answer { λ r. ⌜ r ≡ lent editNumber room words reals true LOOPS id ⌝ }
+    ensures tables { λ _. ⌜ now (words .exit) ≡ lent editWords room words reals true LOOPS id 0 (loopGiven (was value)) ⌝ }
+    ensures floats { λ _. ⌜ now (reals .exit) ≡ lent editReals room words reals true LOOPS id [] ⌝ }
 {
     changes::loop_(room, words, reals, id, value)
 }
@@ -90,9 +91,9 @@ pub extern "C" fn brunskerl_set_fin(
     id: usize,
     value: &[u32; 4],
 ) -> u32
-    ensures answer { λ r. ⌜ r ≡ lent editNumber room words reals (finKnown (was value)) 5 id ⌝ }
-    ensures tables { λ _. ⌜ now (words .exit) ≡ lent editWords room words reals (finKnown (was value)) 5 id 0 (finGiven (was value)) ⌝ }
-    ensures floats { λ _. ⌜ now (reals .exit) ≡ lent editReals room words reals (finKnown (was value)) 5 id [] ⌝ }
+    ensures answer { λ r. ⌜ r ≡ lent editNumber room words reals (finKnown (was value)) FINS id ⌝ }
+    ensures tables { λ _. ⌜ now (words .exit) ≡ lent editWords room words reals (finKnown (was value)) FINS id 0 (finGiven (was value)) ⌝ }
+    ensures floats { λ _. ⌜ now (reals .exit) ≡ lent editReals room words reals (finKnown (was value)) FINS id [] ⌝ }
 {
     senses::fin(room, words, reals, id, value)
 }
@@ -106,9 +107,9 @@ pub extern "C" fn brunskerl_set_edge(
     value: &[u32; 7],
     floats: &[f64; 1],
 ) -> u32
-    ensures answer { λ r. ⌜ r ≡ lent editNumber room words reals (edgeGood (was value) (was floats)) 6 id ⌝ }
-    ensures tables { λ _. ⌜ now (words .exit) ≡ lent editWords room words reals (edgeGood (was value) (was floats)) 6 id 0 (edgeGiven (was value) (was floats)) ⌝ }
-    ensures floats { λ _. ⌜ now (reals .exit) ≡ lent editReals room words reals (edgeGood (was value) (was floats)) 6 id (edgeOwn (was value) (was floats)) ⌝ }
+    ensures answer { λ r. ⌜ r ≡ lent editNumber room words reals (edgeGood (was value) (was floats)) EDGES id ⌝ }
+    ensures tables { λ _. ⌜ now (words .exit) ≡ lent editWords room words reals (edgeGood (was value) (was floats)) EDGES id 0 (edgeGiven (was value) (was floats)) ⌝ }
+    ensures floats { λ _. ⌜ now (reals .exit) ≡ lent editReals room words reals (edgeGood (was value) (was floats)) EDGES id (edgeOwn (was value) (was floats)) ⌝ }
 {
     changes::edge(room, words, reals, id, value, floats)
 }
@@ -122,9 +123,9 @@ pub extern "C" fn brunskerl_set_vertex(
     value: &[u32; 1],
     floats: &[f64; 4],
 ) -> u32
-    ensures answer { λ r. ⌜ r ≡ lent editNumber room words reals (vertexGood (was value) (was floats)) 7 id ⌝ }
-    ensures tables { λ _. ⌜ now (words .exit) ≡ lent editWords room words reals (vertexGood (was value) (was floats)) 7 id 0 (vertexGiven (was value) (was floats)) ⌝ }
-    ensures floats { λ _. ⌜ now (reals .exit) ≡ lent editReals room words reals (vertexGood (was value) (was floats)) 7 id (vertexOwn (was value) (was floats)) ⌝ }
+    ensures answer { λ r. ⌜ r ≡ lent editNumber room words reals (vertexGood (was value) (was floats)) VERTICES id ⌝ }
+    ensures tables { λ _. ⌜ now (words .exit) ≡ lent editWords room words reals (vertexGood (was value) (was floats)) VERTICES id 0 (vertexGiven (was value) (was floats)) ⌝ }
+    ensures floats { λ _. ⌜ now (reals .exit) ≡ lent editReals room words reals (vertexGood (was value) (was floats)) VERTICES id (vertexOwn (was value) (was floats)) ⌝ }
 {
     changes::vertex(room, words, reals, id, value, floats)
 }
@@ -138,9 +139,9 @@ pub extern "C" fn brunskerl_set_curve(
     value: &[u32; 1],
     floats: &[f64; 6],
 ) -> u32
-    ensures answer { λ r. ⌜ r ≡ lent editNumber room words reals (carrierKnown (was value)) 8 id ⌝ }
-    ensures tables { λ _. ⌜ now (words .exit) ≡ lent editWords room words reals (carrierKnown (was value)) 8 id 0 (carrierGiven (was value) (was floats)) ⌝ }
-    ensures floats { λ _. ⌜ now (reals .exit) ≡ lent editReals room words reals (carrierKnown (was value)) 8 id (carrierOwn (was value) (was floats)) ⌝ }
+    ensures answer { λ r. ⌜ r ≡ lent editNumber room words reals (carrierKnown (was value)) CURVES id ⌝ }
+    ensures tables { λ _. ⌜ now (words .exit) ≡ lent editWords room words reals (carrierKnown (was value)) CURVES id 0 (carrierGiven (was value) (was floats)) ⌝ }
+    ensures floats { λ _. ⌜ now (reals .exit) ≡ lent editReals room words reals (carrierKnown (was value)) CURVES id (carrierOwn (was value) (was floats)) ⌝ }
 {
     changes::curve(room, words, reals, id, value, floats)
 }
@@ -154,9 +155,9 @@ pub extern "C" fn brunskerl_set_surface(
     value: &[u32; 1],
     floats: &[f64; 6],
 ) -> u32
-    ensures answer { λ r. ⌜ r ≡ lent editNumber room words reals (carrierKnown (was value)) 9 id ⌝ }
-    ensures tables { λ _. ⌜ now (words .exit) ≡ lent editWords room words reals (carrierKnown (was value)) 9 id 0 (carrierGiven (was value) (was floats)) ⌝ }
-    ensures floats { λ _. ⌜ now (reals .exit) ≡ lent editReals room words reals (carrierKnown (was value)) 9 id (carrierOwn (was value) (was floats)) ⌝ }
+    ensures answer { λ r. ⌜ r ≡ lent editNumber room words reals (carrierKnown (was value)) SURFACES id ⌝ }
+    ensures tables { λ _. ⌜ now (words .exit) ≡ lent editWords room words reals (carrierKnown (was value)) SURFACES id 0 (carrierGiven (was value) (was floats)) ⌝ }
+    ensures floats { λ _. ⌜ now (reals .exit) ≡ lent editReals room words reals (carrierKnown (was value)) SURFACES id (carrierOwn (was value) (was floats)) ⌝ }
 {
     changes::surface(room, words, reals, id, value, floats)
 }
@@ -169,9 +170,9 @@ pub extern "C" fn brunskerl_set_fin_geometry(
     reals: &mut [f64],
     id: usize,
 ) -> u32
-    ensures answer { λ r. ⌜ r ≡ lent editNumber room words reals true 5 id ⌝ }
-    ensures tables { λ _. ⌜ now (words .exit) ≡ lent editWords room words reals true 5 id 3 (mark true ∷ []) ⌝ }
-    ensures floats { λ _. ⌜ now (reals .exit) ≡ lent editReals room words reals true 5 id [] ⌝ }
+    ensures answer { λ r. ⌜ r ≡ lent editNumber room words reals true FINS id ⌝ }
+    ensures tables { λ _. ⌜ now (words .exit) ≡ lent editWords room words reals true FINS id AT-FIN-PCURVE (mark true ∷ []) ⌝ }
+    ensures floats { λ _. ⌜ now (reals .exit) ≡ lent editReals room words reals true FINS id [] ⌝ }
 {
     single::set_fin_geometry(room, words, reals, id)
 }

@@ -18,6 +18,12 @@ use inserts::insert_vertex;
 use listed::append_entry;
 use lone::insert_loop;
 use lone::insert_shell;
+use model::names::BODY_REGIONS;
+use model::names::EDGE_FINS;
+use model::names::FACE_LOOPS;
+use model::names::LOOP_FINS;
+use model::names::REGION_SHELLS;
+use model::names::SHELL_FACES;
 use store::Carrier;
 use vectors::vector::Point3;
 use vectors::vector::Vec3;
@@ -198,8 +204,17 @@ fn put_body(room: &[usize; 10], words: &mut [u32; 8377], reals: &mut [f64; 158])
     while i < 2 {
         ok = ok & stands(insert_region(room, &mut words[..], &mut reals[..], 0, i == 1));
         ok = ok & stands(insert_shell(room, &mut words[..], &mut reals[..], i));
-        ok = ok & (append_entry(room, &mut words[..], &reals[..], 0, 0, i) == 0);
-        ok = ok & (append_entry(room, &mut words[..], &reals[..], 1, i as usize, i) == 0);
+        ok = ok & (append_entry(room, &mut words[..], &reals[..], BODY_REGIONS, 0, i) == 0);
+        ok = ok
+            & (append_entry(
+                room,
+                &mut words[..],
+                &reals[..],
+                REGION_SHELLS,
+                i as usize,
+                i,
+            )
+                == 0);
         i += 1;
     }
     ok
@@ -239,8 +254,15 @@ fn list_fins(room: &[usize; 10], words: &mut [u32; 8377], reals: &[f64; 158], i:
     if 12 <= i {
         return false;
     }
-    let a = append_entry(room, &mut words[..], &reals[..], 7, i, FINS[2 * i]);
-    let b = append_entry(room, &mut words[..], &reals[..], 7, i, FINS[2 * i + 1]);
+    let a = append_entry(room, &mut words[..], &reals[..], EDGE_FINS, i, FINS[2 * i]);
+    let b = append_entry(
+        room,
+        &mut words[..],
+        &reals[..],
+        EDGE_FINS,
+        i,
+        FINS[2 * i + 1],
+    );
     (a == 0) & (b == 0)
 }
 
@@ -303,9 +325,9 @@ fn list_face(
     i: usize,
     id: u32,
 ) -> bool {
-    let a = append_entry(room, &mut words[..], &reals[..], 2, 0, id);
-    let b = append_entry(room, &mut words[..], &reals[..], 2, 1, id);
-    let c = append_entry(room, &mut words[..], &reals[..], 5, i, id);
+    let a = append_entry(room, &mut words[..], &reals[..], SHELL_FACES, 0, id);
+    let b = append_entry(room, &mut words[..], &reals[..], SHELL_FACES, 1, id);
+    let c = append_entry(room, &mut words[..], &reals[..], FACE_LOOPS, i, id);
     (a == 0) & (b == 0) & (c == 0)
 }
 
@@ -357,7 +379,16 @@ fn put_fins(room: &[usize; 10], words: &mut [u32; 8377], reals: &mut [f64; 158])
                 sense_of(i % 4 / 2),
                 false,
             ));
-        ok = ok & (append_entry(room, &mut words[..], &reals[..], 6, (i / 4) as usize, i) == 0);
+        ok = ok
+            & (append_entry(
+                room,
+                &mut words[..],
+                &reals[..],
+                LOOP_FINS,
+                (i / 4) as usize,
+                i,
+            )
+                == 0);
         i += 1;
     }
     ok

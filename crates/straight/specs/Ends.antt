@@ -7,6 +7,7 @@ use Rattle.store.specs.Queries.{lineRefusal}
 use Rattle.meaning.specs.Model.{Model, has, curve}
 use Rattle.meaning.specs.Refuse.{firstRefusal}
 use Rattle.meaning.specs.Split.{test2, test4, test5, test6}
+use Rattle.model.specs.Names.{AT-EDGE-START, AT-EDGE-START-ID, AT-EDGE-END, AT-EDGE-END-ID, AT-EDGE-CURVE, AT-EDGE-CURVE-ID}
 use Rattle.model.specs.Layout.{word}
 use Rattle.model.specs.Decode.{flagAt}
 
@@ -17,8 +18,8 @@ endsRefusal m e = firstRefusal (test2 m e ∷ test4 m e ∷ test5 m e ∷ test6 
 -- tests 4 to 6, of the edge's words
 unfoldable pub carrierRefusal : Model → List ℕ → ℕ
 carrierRefusal m s =
-    7 unless flagAt s 0 && flagAt s 2
-    then 1 unless flagAt s 4
-    then lineRefusal (curve m (word s 5))
-    then 2 unless has (m .vertices) (word s 1)
-    then 2 unless has (m .vertices) (word s 3)
+    7 unless flagAt s AT-EDGE-START && flagAt s AT-EDGE-END
+    then 1 unless flagAt s AT-EDGE-CURVE
+    then lineRefusal (curve m (word s AT-EDGE-CURVE-ID))
+    then 2 unless has (m .vertices) (word s AT-EDGE-START-ID)
+    then 2 unless has (m .vertices) (word s AT-EDGE-END-ID)

@@ -8,6 +8,7 @@ use Rattle.numbers.specs.Ops.{zeroF}
 use Rattle.meaning.specs.Lists.{all, joined}
 use Rattle.meaning.specs.Model.{Model, region}
 use Rattle.meaning.specs.Inquire.{Side, sidesOf, sidesRefusal, sumVolumes}
+use Rattle.model.specs.Names.{REGIONS, REGION-SHELLS, SHELL-FACES, AT-REGION-SOLID}
 use Rattle.model.specs.Layout.{wordsOf}
 use Rattle.model.specs.Decode.{flagAt}
 use Rattle.model.specs.Entries.{listOf}
@@ -30,11 +31,11 @@ regionSides m r = cond (region m r .solid) (joined (sidesOf m) (region m r .shel
 module _ (room w : List ℕ) where
   -- the shells of a region that is solid
   unfoldable pub solidShells : ℕ → List ℕ
-  solidShells r = cond (flagAt (wordsOf room w 1 r) 1) (listOf room w 1 r) []
+  solidShells r = cond (flagAt (wordsOf room w REGIONS r) AT-REGION-SOLID) (listOf room w REGION-SHELLS r) []
 
   -- all that the volume follows exists: from a shell on, and from a region on
   unfoldable pub facesWhole : ℕ → Bool
-  facesWhole s = all (faceWhole room w) (listOf room w 2 s)
+  facesWhole s = all (faceWhole room w) (listOf room w SHELL-FACES s)
 
   unfoldable pub regionWhole : ℕ → Bool
-  regionWhole r = followed room w 1 r && all facesWhole (listOf room w 1 r)
+  regionWhole r = followed room w REGION-SHELLS r && all facesWhole (listOf room w REGION-SHELLS r)

@@ -1,6 +1,10 @@
 // The sides of a body's solid regions, met one after the other as they are listed (the loops of `body_volume`, inquire.rs).
 use listing::list;
 use model::layout::words_of;
+use model::names::AT_REGION_SOLID;
+use model::names::REGION_SHELLS;
+use model::names::REGIONS;
+use model::names::SHELL_FACES;
 use segments::refusals::then;
 use sides::side_refusal;
 use sides::side_volume;
@@ -12,6 +16,7 @@ ghost use lib.Dec.{ltb};
 ghost use Rattle.meaning.specs.Lists.{all, joined};
 ghost use Rattle.meaning.specs.Model.{Model};
 ghost use Rattle.meaning.specs.Inquire.{Side, sidesOf};
+ghost use Rattle.model.specs.Names.{REGIONS, SHELLS};
 ghost use Rattle.model.specs.Layout.{word};
 ghost use Rattle.model.specs.Decode.{decode};
 ghost use Rattle.model.specs.Fit.{Fit, Lists};
@@ -68,11 +73,11 @@ fn with_side(
 // Of the faces that a shell lists.
 fn with_shell(room: &[usize; 10], words: &[u32], reals: &[f64], shell: u32, before: Tally) -> Tally
     requires { ⌜ Fit (now room) (now words) (now reals) ⌝ }
-    requires { ⌜ shell < word (now words) 2 ⌝ }
+    requires { ⌜ shell < word (now words) SHELLS ⌝ }
     requires { ⌜ facesWhole (now room) (now words) shell ≡ true ⌝ }
     ensures { λ r. ⌜ ((l : List Side) → before ≡ tallyOf (decode (now (room .entry)) (now (words .entry)) (now (reals .entry))) l → r ≡ tallyOf (decode (now (room .entry)) (now (words .entry)) (now (reals .entry))) (l ++ sidesOf (decode (now (room .entry)) (now (words .entry)) (now (reals .entry))) shell)) ⌝ }
 {
-    let faces = list(room, words, 2, shell as usize);
+    let faces = list(room, words, SHELL_FACES, shell as usize);
     let mut t = before;
     let mut k = 0;
     while k < faces.len() {
@@ -91,7 +96,7 @@ fn with_shells(
     before: Tally,
 ) -> Tally
     requires { ⌜ Fit (now room) (now words) (now reals) ⌝ }
-    requires { ⌜ all (λ s. ltb s (word (now words) 2)) (now shells) ≡ true ⌝ }
+    requires { ⌜ all (λ s. ltb s (word (now words) SHELLS)) (now shells) ≡ true ⌝ }
     requires { ⌜ all (facesWhole (now room) (now words)) (now shells) ≡ true ⌝ }
     ensures { λ r. ⌜ ((l : List Side) → before ≡ tallyOf (decode (now (room .entry)) (now (words .entry)) (now (reals .entry))) l → r ≡ tallyOf (decode (now (room .entry)) (now (words .entry)) (now (reals .entry))) (l ++ joined (sidesOf (decode (now (room .entry)) (now (words .entry)) (now (reals .entry)))) (now (shells .entry)))) ⌝ }
 {
@@ -107,12 +112,12 @@ fn with_shells(
 // The shells of a region that is solid, of another none.
 fn solid_shells<'a>(room: &[usize; 10], words: &'a [u32], region: usize) -> &'a [u32]
     requires { ⌜ Lists (now room) (now words) ⌝ }
-    requires { ⌜ region < word (now words) 1 ⌝ }
+    requires { ⌜ region < word (now words) REGIONS ⌝ }
     ensures { λ r. ⌜ now r ≡ solidShells (now (room .entry)) (now (words .entry)) region ⌝ }
 {
-    let shells = list(room, words, 1, region);
-    let w = words_of(room, words, 1, region);
-    if w[1] == 0 {
+    let shells = list(room, words, REGION_SHELLS, region);
+    let w = words_of(room, words, REGIONS, region);
+    if w[AT_REGION_SOLID] == 0 {
         return &shells[..0];
     }
     shells

@@ -3,6 +3,24 @@ use allowed::body_ok;
 use allowed::own_ok;
 use allowed::region_ok;
 use allowed::shell_ok;
+use model::names::AT_CARRIER_TAG;
+use model::names::AT_EDGE_FINS;
+use model::names::AT_EDGE_TOLERANCE;
+use model::names::AT_FACE_LOOPS;
+use model::names::AT_FIN_PCURVE;
+use model::names::AT_FIN_SENSE;
+use model::names::AT_LOOP_FINS;
+use model::names::AT_VERTEX_TOLERANCE;
+use model::names::BODIES;
+use model::names::CURVES;
+use model::names::EDGES;
+use model::names::FACES;
+use model::names::FINS;
+use model::names::FLOAT_EDGE_TOLERANCE;
+use model::names::FLOAT_VERTEX_TOLERANCE;
+use model::names::REGIONS;
+use model::names::SHELLS;
+use model::names::VERTICES;
 ghost use mathlib.Core.Path.{_≡_};
 ghost use mathlib.Core.Bool.{_&&_};
 ghost use Prim.Native.Nat.{_<_, _≤_};
@@ -25,42 +43,42 @@ fn face_ok(w: &[u32]) -> bool
     requires { ⌜ length (now w) ≡ 24 ⌝ }
     ensures { λ r. ⌜ r ≡ faceOk (now (w .entry)) ⌝ }
 {
-    marked(w) & (w[7] <= 16)
+    marked(w) & (w[AT_FACE_LOOPS] <= 16)
 }
 
 fn loop_ok(w: &[u32]) -> bool
     requires { ⌜ length (now w) ≡ 1026 ⌝ }
     ensures { λ r. ⌜ r ≡ loopOk (now (w .entry)) ⌝ }
 {
-    w[1] <= 1024
+    w[AT_LOOP_FINS] <= 1024
 }
 
 fn fin_ok(w: &[u32]) -> bool
     requires { ⌜ length (now w) ≡ 4 ⌝ }
     ensures { λ r. ⌜ r ≡ finOk (now (w .entry)) ⌝ }
 {
-    (w[2] <= 1) & (w[3] <= 1)
+    (w[AT_FIN_SENSE] <= 1) & (w[AT_FIN_PCURVE] <= 1)
 }
 
 fn edge_ok(w: &[u32], x: &[f64]) -> bool
     requires { ⌜ (length (now w) ≡ 16) × (length (now x) ≡ 1) ⌝ }
     ensures { λ r. ⌜ r ≡ edgeOk (now (w .entry)) (now (x .entry)) ⌝ }
 {
-    marked(w) & (w[7] <= 8) & own_ok(w[6], x[0])
+    marked(w) & (w[AT_EDGE_FINS] <= 8) & own_ok(w[AT_EDGE_TOLERANCE], x[FLOAT_EDGE_TOLERANCE])
 }
 
 fn vertex_ok(w: &[u32], x: &[f64]) -> bool
     requires { ⌜ (length (now w) ≡ 1) × (length (now x) ≡ 4) ⌝ }
     ensures { λ r. ⌜ r ≡ vertexOk (now (w .entry)) (now (x .entry)) ⌝ }
 {
-    (w[0] <= 1) & own_ok(w[0], x[3])
+    (w[AT_VERTEX_TOLERANCE] <= 1) & own_ok(w[AT_VERTEX_TOLERANCE], x[FLOAT_VERTEX_TOLERANCE])
 }
 
 fn carrier_ok(w: &[u32]) -> bool
     requires { ⌜ length (now w) ≡ 1 ⌝ }
     ensures { λ r. ⌜ r ≡ carrierOk (now (w .entry)) ⌝ }
 {
-    w[0] <= 2
+    w[AT_CARRIER_TAG] <= 2
 }
 
 // One record of the first five tables, by its table.
@@ -69,10 +87,10 @@ fn upper_ok(k: usize, w: &[u32]) -> bool
     ensures { λ r. ⌜ r ≡ recordOk k (now (w .entry)) [] ⌝ }
 {
     match k {
-        0 => body_ok(w),
-        1 => region_ok(w),
-        2 => shell_ok(w),
-        3 => face_ok(w),
+        BODIES => body_ok(w),
+        REGIONS => region_ok(w),
+        SHELLS => shell_ok(w),
+        FACES => face_ok(w),
         _ => loop_ok(w),
     }
 }
@@ -86,10 +104,10 @@ pub fn record_ok(k: usize, w: &[u32], x: &[f64]) -> bool
         return upper_ok(k, w);
     }
     match k {
-        5 => fin_ok(w),
-        6 => edge_ok(w, x),
-        7 => vertex_ok(w, x),
-        8 => carrier_ok(w),
+        FINS => fin_ok(w),
+        EDGES => edge_ok(w, x),
+        VERTICES => vertex_ok(w, x),
+        CURVES => carrier_ok(w),
         _ => carrier_ok(w),
     }
 }

@@ -7,6 +7,9 @@ use cuts::fraction_ok;
 use cuts::point_refusal;
 use legible::readable;
 use listing::list;
+use model::names::EDGE_FINS;
+use model::names::EDGES;
+use model::names::PRECISION;
 use segments::refusals::then;
 use segments::refusals::unless;
 use straight::segment_at;
@@ -27,10 +30,10 @@ fn edge_refusal(room: &[usize; 10], words: &[u32], reals: &[f64], edge: usize, f
     if !fraction_ok(fraction) {
         return 1;
     }
-    if words[6] as usize <= edge {
+    if words[EDGES] as usize <= edge {
         return 2;
     }
-    let pcurves = pcurves_refusal(room, words, list(room, words, 7, edge));
+    let pcurves = pcurves_refusal(room, words, list(room, words, EDGE_FINS, edge));
     then(pcurves, bounds_refusal(room, words, reals, edge))
 }
 
@@ -48,8 +51,8 @@ fn place_refusal(
 {
     let segment = segment_at(room, words, reals, edge);
     let cut = cut_of(segment, fraction, edge_tolerance(room, words, reals, edge));
-    let point = point_refusal(segment, cut.at, reals[0]);
-    let fins = list(room, words, 7, edge);
+    let point = point_refusal(segment, cut.at, reals[PRECISION]);
+    let fins = list(room, words, EDGE_FINS, edge);
     then(point, fins_refusal(room, words, reals, fins, edge, cut))
 }
 
@@ -61,7 +64,7 @@ fn room_refusal(room: &[usize; 10], words: &[u32], reals: &[f64], edge: usize, f
     ensures { λ r. ⌜ r ≡ roomRow (limits (now (room .entry))) (decode (now (room .entry)) (now (words .entry)) (now (reals .entry))) edge ⌝ }
 {
     let once = shells_ok(room, words, edge, false);
-    let fins = list(room, words, 7, edge);
+    let fins = list(room, words, EDGE_FINS, edge);
     let fit = capacity_fits(room, words, fins, edge);
     then(unless(1, once), unless(8, fit))
 }

@@ -4,6 +4,8 @@ use entity::records::Sense;
 use fetched::edge_at;
 use fetched::fin_at;
 use legible::readable;
+use model::names::EDGES;
+use model::names::FINS;
 ghost use mathlib.Core.Path.{_≡_};
 ghost use mathlib.Core.List.{List};
 ghost use lib.Ieee.{Float};
@@ -30,10 +32,10 @@ fn readable_fin(room: &[usize; 10], words: &[u32], fin: usize) -> bool
     requires { ⌜ Lists (now room) (now words) ⌝ }
     ensures { λ r. ⌜ ((x : List Float) → r ≡ readableFin (decode (now (room .entry)) (now (words .entry)) x) fin) ⌝ }
 {
-    if words[5] as usize <= fin {
+    if words[FINS] as usize <= fin {
         return false;
     }
-    fin_at(room, words, fin).edge < words[6]
+    fin_at(room, words, fin).edge < words[EDGES]
 }
 
 // 9, then 2.

@@ -5,6 +5,9 @@ use denials::edges_refusal;
 use denials::faces_refusal;
 use denials::vertices_refusal;
 use marks::clear;
+use model::names::EDGES;
+use model::names::FACES;
+use model::names::VERTICES;
 use paths::edge_path;
 use paths::face_path;
 use paths::vertex_path;
@@ -29,7 +32,7 @@ pub fn write_faces(
     ensures code { λ _. ⌜ now (code .exit) ≡ facesNumber (now (room .entry)) (now (words .entry)) (now (reals .entry)) body (now (faces .entry)) (now (out .entry)) ⌝ }
     ensures faces { λ _. ⌜ now (faces .exit) ≡ replicate (length (now (faces .entry))) 0 ⌝ }
 {
-    let enough = room[3] <= faces.len();
+    let enough = room[FACES] <= faces.len();
     clear(faces);
     let refused = faces_refusal(room, words, reals, enough, body);
     *code = refused;
@@ -58,7 +61,7 @@ pub fn write_edges(
     ensures faces { λ _. ⌜ now (faces .exit) ≡ replicate (length (now (faces .entry))) 0 ⌝ }
     ensures edges { λ _. ⌜ now (edges .exit) ≡ replicate (length (now (edges .entry))) 0 ⌝ }
 {
-    let enough = (room[3] <= faces.len()) & (room[6] <= edges.len());
+    let enough = (room[FACES] <= faces.len()) & (room[EDGES] <= edges.len());
     clear(faces);
     clear(edges);
     let refused = edges_refusal(room, words, reals, enough, body, faces);
@@ -90,7 +93,9 @@ pub fn write_vertices(
     ensures edges { λ _. ⌜ now (edges .exit) ≡ replicate (length (now (edges .entry))) 0 ⌝ }
     ensures vertices { λ _. ⌜ now (vertices .exit) ≡ replicate (length (now (vertices .entry))) 0 ⌝ }
 {
-    let enough = (room[3] <= faces.len()) & (room[6] <= edges.len()) & (room[7] <= vertices.len());
+    let enough = (room[FACES] <= faces.len())
+        & (room[EDGES] <= edges.len())
+        & (room[VERTICES] <= vertices.len());
     clear(faces);
     clear(edges);
     clear(vertices);

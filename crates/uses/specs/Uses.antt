@@ -9,6 +9,7 @@ use Rattle.meaning.specs.Lists.{member, count}
 use Rattle.meaning.specs.Model.{Model, edge}
 use Rattle.meaning.specs.Refuse.{_if_}
 use Rattle.meaning.specs.Split.{carrier, lo, hi, parameter, splitPoint}
+use Rattle.model.specs.Names.{LOOPS, FINS, LOOP-FINS, AT-LOOP-FACE, AT-FIN-LOOP, AT-FIN-EDGE}
 use Rattle.model.specs.Layout.{word, wordsOf}
 use Rattle.model.specs.Entries.{listOf}
 use Rattle.slices.specs.declared.Cut.{Cut}
@@ -33,8 +34,8 @@ module _ (room w : List ℕ) (x : List Float) where
   -- one fin of test 11
   unfoldable pub finTest : ℕ → Cut → ℕ → ℕ
   finTest e c i =
-      let l = word (wordsOf room w 5 i) 0 in
-      1 unless eqb (word (wordsOf room w 5 i) 1) e
-      then 2 unless ltb l (word w 4)
-      then 1 unless eqb (count i (listOf room w 6 l)) 1
-      then faceTest room w x c (word (wordsOf room w 4 l) 0)
+      let l = word (wordsOf room w FINS i) AT-FIN-LOOP in
+      1 unless eqb (word (wordsOf room w FINS i) AT-FIN-EDGE) e
+      then 2 unless ltb l (word w LOOPS)
+      then 1 unless eqb (count i (listOf room w LOOP-FINS l)) 1
+      then faceTest room w x c (word (wordsOf room w LOOPS l) AT-LOOP-FACE)

@@ -4,6 +4,7 @@ use attached::one_if;
 use attached::owner_of;
 use attached::use_refusal;
 use listing::list;
+use model::names::LOOP_FINS;
 use slices::Cut;
 use slices::face_refusal;
 ghost use mathlib.Core.Path.{_≡_};
@@ -33,7 +34,7 @@ pub fn fins_refusal(
             break 'fins;
         }
         let owner = owner_of(room, words, fins[k] as usize);
-        let entries = list(room, words, 6, owner);
+        let entries = list(room, words, LOOP_FINS, owner);
         let mut times: usize = 0;
         let mut j = 0;
         while j < entries.len() {

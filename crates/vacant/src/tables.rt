@@ -3,6 +3,10 @@ use crate::wires::shells_ok;
 use attached::one_if;
 use attached::owner_of;
 use listing::list;
+use model::names::EDGES;
+use model::names::FINS;
+use model::names::LOOP_FINS;
+use model::names::VERTICES;
 ghost use mathlib.Core.Path.{_≡_};
 ghost use Prim.Native.Nat.{_<_};
 ghost use lib.ListN.{length};
@@ -35,7 +39,7 @@ fn loop_fits(room: &[usize; 10], words: &[u32], fins: &[u32], k: usize) -> bool
     ensures { λ r. ⌜ r ≡ loopTest (now (room .entry)) (now (words .entry)) (now (fins .entry)) (word (now (fins .entry)) k) ⌝ }
 {
     let owner = owner_of(room, words, fins[k] as usize);
-    let entries = list(room, words, 6, owner);
+    let entries = list(room, words, LOOP_FINS, owner);
     let more = gain(room, words, fins, owner);
     entries.len() + more <= 1024
 }
@@ -60,9 +64,9 @@ fn tables_fit(room: &[usize; 10], words: &[u32], fins: &[u32]) -> bool
     ensures { λ r. ⌜ r ≡ tablesTest (now (room .entry)) (now (words .entry)) (now (fins .entry)) ⌝ }
 {
     let n = fins.len();
-    (words[5] as usize + n <= room[5])
-        & (words[6] as usize + 1 <= room[6])
-        & (words[7] as usize + 1 <= room[7])
+    (words[FINS] as usize + n <= room[FINS])
+        & (words[EDGES] as usize + 1 <= room[EDGES])
+        & (words[VERTICES] as usize + 1 <= room[VERTICES])
         & (n <= 8)
 }
 

@@ -1,9 +1,12 @@
 // The wire edges of the shells: test 12, and their part of test 13.
 use attached::one_if;
 use listing::list;
+use model::names::SHELL_WIRES;
+use model::names::SHELLS;
 ghost use mathlib.Core.Path.{_≡_};
 ghost use Prim.Native.Nat.{_<_};
 ghost use Rattle.meaning.specs.Lists.{count, allBelow};
+ghost use Rattle.model.specs.Names.{SHELLS};
 ghost use Rattle.model.specs.Layout.{word};
 ghost use Rattle.model.specs.Fit.{Lists};
 ghost use Rattle.cuts.specs.Cuts.{wireTest};
@@ -24,10 +27,10 @@ fn count_of(s: &[u32], x: usize) -> usize
 // One shell: whether it has room for the new wire edge, or else whether it lists the edge at most once.
 fn wires_ok(room: &[usize; 10], words: &[u32], edge: usize, fit: bool, shell: usize) -> bool
     requires { ⌜ Lists (now room) (now words) ⌝ }
-    requires { ⌜ shell < word (now words) 2 ⌝ }
+    requires { ⌜ shell < word (now words) SHELLS ⌝ }
     ensures { λ r. ⌜ r ≡ wireTest (now (room .entry)) (now (words .entry)) edge fit shell ⌝ }
 {
-    let wires = list(room, words, 3, shell);
+    let wires = list(room, words, SHELL_WIRES, shell);
     let times = count_of(wires, edge);
     if fit {
         return wires.len() + times <= 256;
@@ -38,9 +41,9 @@ fn wires_ok(room: &[usize; 10], words: &[u32], edge: usize, fit: bool, shell: us
 // Every shell of the table.
 pub fn shells_ok(room: &[usize; 10], words: &[u32], edge: usize, fit: bool) -> bool
     requires { ⌜ Lists (now room) (now words) ⌝ }
-    ensures { λ r. ⌜ r ≡ allBelow (wireTest (now (room .entry)) (now (words .entry)) edge fit) (word (now (words .entry)) 2) ⌝ }
+    ensures { λ r. ⌜ r ≡ allBelow (wireTest (now (room .entry)) (now (words .entry)) edge fit) (word (now (words .entry)) SHELLS) ⌝ }
 {
-    let shells = words[2] as usize;
+    let shells = words[SHELLS] as usize;
     let mut ok = true;
     let mut s = 0;
     while s < shells {

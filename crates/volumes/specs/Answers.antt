@@ -5,6 +5,7 @@ use lib.Ieee.{Float}
 use Rattle.numbers.specs.Ops.{zeroF}
 use Rattle.geometry.specs.Refuse.{_unless_, _then_, answer}
 use Rattle.meaning.specs.Inquire.{solidSides, sumVolumes, volumeRefusal}
+use Rattle.model.specs.Names.{FACES}
 use Rattle.model.specs.Decode.{decode}
 use Rattle.model.specs.Readable.{readable}
 use Rattle.walks.specs.Calls.{reach}
@@ -15,7 +16,7 @@ module _ (room w : List ℕ) (x : List Float) (b : ℕ) (faceMarks : List ℕ) w
   unfoldable pub volumeNumber : ℕ
   volumeNumber =
       9 unless readable room w x
-      then 8 unless reach room 3 faceMarks
+      then 8 unless reach room FACES faceMarks
       then volumeRefusal (decode room w x) b
 
   unfoldable pub volumeAnswer : Volume

@@ -2,6 +2,10 @@
 use listing::list;
 use marks::clear;
 use model::layout::words_of;
+use model::names::AT_BODY_KIND;
+use model::names::BODIES;
+use model::names::BODY_REGIONS;
+use model::names::FACES;
 use polyhedral::polyhedral_refusal;
 use replies::Volume;
 use segments::refusals::then;
@@ -47,11 +51,11 @@ fn solid_volume(room: &[usize; 10], words: &[u32], reals: &[f64], body: usize) -
     requires { ⌜ Edged (now room) (now words) body ⌝ }
     ensures { λ r. ⌜ r ≡ solidVolume (decode (now (room .entry)) (now (words .entry)) (now (reals .entry))) body ⌝ }
 {
-    let w = words_of(room, words, 0, body);
-    if !is_solid(w[0]) {
+    let w = words_of(room, words, BODIES, body);
+    if !is_solid(w[AT_BODY_KIND]) {
         return Volume::Refused(6);
     }
-    told(regions_tally(room, words, reals, list(room, words, 0, body)))
+    told(regions_tally(room, words, reals, list(room, words, BODY_REGIONS, body)))
 }
 
 // The volume of a body's solid regions. `faces` are seen marks.
@@ -65,7 +69,7 @@ pub fn body_volume(
     ensures answer { λ r. ⌜ r ≡ volumeAnswer (now (room .entry)) (now (words .entry)) (now (reals .entry)) body (now (faces .entry)) ⌝ }
     ensures faces { λ _. ⌜ now (faces .exit) ≡ replicate (length (now (faces .entry))) 0 ⌝ }
 {
-    let enough = room[3] <= faces.len();
+    let enough = room[FACES] <= faces.len();
     clear(faces);
     let n = polyhedral_refusal(room, words, reals, enough, body, faces);
     if n != 0 {

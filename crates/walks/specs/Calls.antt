@@ -8,6 +8,7 @@ use lib.ListN.{length, drop}
 use lib.Ieee.{Float}
 use Rattle.geometry.specs.Refuse.{_unless_, _then_}
 use Rattle.meaning.specs.Walks.{faceWalk, facesRefusal, edgeWalk, edgesRefusal, vertexWalk, verticesRefusal}
+use Rattle.model.specs.Names.{FACES, EDGES, VERTICES}
 use Rattle.model.specs.Layout.{word}
 use Rattle.model.specs.Decode.{decode}
 use Rattle.model.specs.Readable.{readable}
@@ -38,7 +39,7 @@ module _ (room w : List ℕ) (x : List Float) (b : ℕ) where
 
   unfoldable pub facesNumber : List ℕ → List ℕ → ℕ
   facesNumber faceMarks out =
-      numbered (readable room w x) (reach room 3 faceMarks) (facesRefusal (decode room w x) b) (faceWalk (decode room w x) b) (length out)
+      numbered (readable room w x) (reach room FACES faceMarks) (facesRefusal (decode room w x) b) (faceWalk (decode room w x) b) (length out)
 
   unfoldable pub facesHanded : List ℕ → List ℕ → List ℕ
   facesHanded faceMarks out = handed (facesNumber faceMarks out) (faceWalk (decode room w x) b)
@@ -47,7 +48,7 @@ module _ (room w : List ℕ) (x : List Float) (b : ℕ) where
 
   unfoldable pub edgesNumber : List ℕ → List ℕ → List ℕ → ℕ
   edgesNumber faceMarks edgeMarks out =
-      numbered (readable room w x) (reach room 3 faceMarks && reach room 6 edgeMarks) (edgesRefusal (decode room w x) b) (edgeWalk (decode room w x) b) (length out)
+      numbered (readable room w x) (reach room FACES faceMarks && reach room EDGES edgeMarks) (edgesRefusal (decode room w x) b) (edgeWalk (decode room w x) b) (length out)
 
   unfoldable pub edgesHanded : List ℕ → List ℕ → List ℕ → List ℕ
   edgesHanded faceMarks edgeMarks out = handed (edgesNumber faceMarks edgeMarks out) (edgeWalk (decode room w x) b)
@@ -56,7 +57,7 @@ module _ (room w : List ℕ) (x : List Float) (b : ℕ) where
 
   unfoldable pub verticesNumber : List ℕ → List ℕ → List ℕ → List ℕ → ℕ
   verticesNumber faceMarks edgeMarks vertexMarks out =
-      numbered (readable room w x) (reach room 3 faceMarks && reach room 6 edgeMarks && reach room 7 vertexMarks) (verticesRefusal (decode room w x) b) (vertexWalk (decode room w x) b)
+      numbered (readable room w x) (reach room FACES faceMarks && reach room EDGES edgeMarks && reach room VERTICES vertexMarks) (verticesRefusal (decode room w x) b) (vertexWalk (decode room w x) b)
       (length out)
 
   unfoldable pub verticesHanded : List ℕ → List ℕ → List ℕ → List ℕ → List ℕ
