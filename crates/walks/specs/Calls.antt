@@ -1,4 +1,4 @@
--- The walks and `fin_vertices` over lent memory: which number, which list. Definitions only.
+-- The walks over lent memory: which number, which list. Definitions only.
 -- What is walked, and when 2 is given, stands in `meaning`, Walks.antt.
 use Prim.Native.Nat.{ℕ, zero, suc}
 use mathlib.Core.Bool.{Bool, _&&_}
