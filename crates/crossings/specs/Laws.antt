@@ -11,6 +11,7 @@ use Rattle.present.specs.declared.EntityRef.the-variants.{Vertex}
 use Rattle.model.specs.Layout.{word}
 use Rattle.frame.specs.Put.{unlessRefused}
 use Rattle.lent.specs.Lent.{Crosses, alone}
+use Rattle.lent.specs.Laws.{crossed}
 use Rattle.edits.specs.declared.Inserted.{Inserted}
 use Rattle.edits.specs.declared.Inserted.the-variants.{At, Refused}
 use Rattle.edits.specs.Answers.{insertNumber, insertAnswer, insertWords, insertReals, editNumber, editWords, editReals}
@@ -32,7 +33,7 @@ pub put-inserted : (room w : List ℕ) (x : List Float) (good : Bool) (k r : ℕ
     → Crosses At Refused alone a r old new → a ≡ insertAnswer room w x good k
     → (r ≡ insertNumber room w x good k) × (new ≡ unlessRefused r (word w k ∷ []) old)
 unfolding insertAnswer
-put-inserted room w x good k r a old new h e = h .crossed (insertNumber room w x good k) (word w k) e
+put-inserted room w x good k r a old new h e = crossed h (insertNumber room w x good k) (word w k) e
 
 -- ---- 9, then 1: what is written
 

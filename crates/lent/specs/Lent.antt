@@ -5,10 +5,8 @@ use mathlib.Core.List.{List, [], _∷_}
 use lib.Ieee.{Float}
 use denote.Ref.{RefT}
 use denote.Triple.Both.{Both}
-use Rattle.geometry.specs.Refuse.{answer}
 use Rattle.meaning.specs.Model.{Model}
 use Rattle.model.specs.Decode.{decode}
-use Rattle.frame.specs.Put.{unlessRefused}
 
 -- what stood behind a reference at entry, `now (x .entry)`
 abbrev pub was : {X E : Type 0} → Both (RefT X) E → X
@@ -26,7 +24,7 @@ held = lent decode
 abbrev pub alone : {A : Type 0} → A → List A
 alone v = v ∷ []
 
--- an answer a that is an enum (01, "a definition gives this paper's number and values for each case of the enum": `answer`), crossed to C: whatever number and value it is
--- made of, r is the number, and the slots, which held old, hold the value, or old where it is refused
+-- an answer a that is an enum, crossed to C: of a value r is 0 and the slots, which held old, hold the value; of a refusal r is its number and they hold old
 pub record Crosses {B A S : Type 0} (is : B → A) (refused : ℕ → A) (value : B → S) (a : A) (r : ℕ) (old new : S) : Type 0 where
-  pub crossed : (n : ℕ) (b : B) → a ≡ answer is refused n b → (r ≡ n) × (new ≡ unlessRefused r (value b) old)
+  pub of-value : (b : B) → a ≡ is b → (r ≡ 0) × (new ≡ value b)
+  pub of-refusal : (n : ℕ) → a ≡ refused n → (r ≡ n) × (new ≡ old)

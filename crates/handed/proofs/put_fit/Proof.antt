@@ -1,9 +1,8 @@
 -- `handed::put_fit` meets its contract. Assumes nothing.
-use mathlib.Core.Path.{sym, ap, _∙_}
+use mathlib.Core.Path.{ap}
 use Rattle.replies.specs.declared.Sawable.the-variants.{Is, Refused}
 use Rattle.lent.specs.Lent.{alone}
-use Rattle.lent.specs.Laws.{Cases, given, denied}
-use Rattle.handed.specs.Handed.{markValue}
+use Rattle.lent.specs.Laws.{Cases, value-crosses, refusal-crosses}
 use borrow.Author.Needs.{needs}
 use Rattle.handed.proofs.put_fit.Statement.{statement}
 use Rattle.handed.proofs.put_fit.Tie as tie
@@ -21,10 +20,10 @@ enum-known-answer-2 : tie.Need-enum-known-answer-2
 enum-known-answer-2 c = search needs
 
 returns : tie.Need-returns
-returns c = record { crossed = λ n b e. let p = given cases n b _ (sym e ∙ c .before .before .before .answer .given .1) in (p .0, ap alone (c .before .mark .ensures) ∙ ap markValue (p .1)) }
+returns c = value-crosses cases _ (c .before .before .before .answer .given .1) (ap alone (c .before .mark .ensures))
 
 returns-2 : tie.Need-returns-2
-returns-2 c = record { crossed = λ n b e. let p = denied cases n b _ (sym e ∙ c .before .answer2 .given .1) in (p .0, rw (p .1)) }
+returns-2 c = refusal-crosses cases _ (c .before .answer2 .given .1)
 
 pub put-fit-spec : {M : Type 1} → statement M
 put-fit-spec =

@@ -6,6 +6,7 @@ use Rattle.meaning.specs.Inquire.{boxOf}
 use Rattle.model.specs.Decode.{decode}
 use Rattle.figures.specs.Figures.{seenBox}
 use Rattle.boxes.specs.Answers.{boxNumber, boxAnswer}
+use Rattle.lent.specs.Laws.{crossed}
 use borrow.Author.Needs.{needs}
 use Rattle.measures.proofs.box_of.Statement.{statement}
 use Rattle.measures.proofs.box_of.Tie as tie
@@ -29,7 +30,7 @@ returns : tie.Need-returns
 unfolding boxAnswer
 returns c =
     let s = c .before .before .before .before .before .before .before .before .before .before .before .before .before .before .before .before .before .args in
-    let p = c .put-box .ensures .crossed (boxNumber (s .room .now) (s .words .now) (s .reals .now) (s .body) (s .faces .now) (s .edges .now) (s .vertices .now)) (seenBox (boxOf (map (pointOf (decode (s .room .now) (s .words .now) (s .reals .now))) (vertexWalk (decode (s .room .now) (s .words .now) (s .reals .now)) (s .body))))) (c .before .before .before .before .before .before .before .before .body-bounding-box .ensures .0) in
+    let p = crossed (c .put-box .ensures) (boxNumber (s .room .now) (s .words .now) (s .reals .now) (s .body) (s .faces .now) (s .edges .now) (s .vertices .now)) (seenBox (boxOf (map (pointOf (decode (s .room .now) (s .words .now) (s .reals .now))) (vertexWalk (decode (s .room .now) (s .words .now) (s .reals .now)) (s .body))))) (c .before .before .before .before .before .before .before .before .body-bounding-box .ensures .0) in
     (p .0, (p .1, c .before .before .before .before .before .before .before .before .body-bounding-box .ensures .1))
 
 pub box-of-spec : {M : Type 1} → statement M

@@ -2,6 +2,7 @@
 use Rattle.meaning.specs.Faults.{sawing, sawable}
 use Rattle.model.specs.Decode.{decode}
 use Rattle.checker.specs.Calls.{checkNumber, fitAnswer}
+use Rattle.lent.specs.Laws.{crossed}
 use borrow.Author.Needs.{needs}
 use Rattle.measures.proofs.fit_of.Statement.{statement}
 use Rattle.measures.proofs.fit_of.Tie as tie
@@ -22,7 +23,7 @@ returns : tie.Need-returns
 unfolding fitAnswer
 returns c =
     let s = c .before .before .before .before .before .before .before .before .before .before .before .before .before .args in
-    let p = c .put-fit .ensures .crossed (checkNumber (s .room .now) (s .words .now) (s .reals .now) (s .body) sawing (s .faces .now) (s .edges .now)) (sawable (decode (s .room .now) (s .words .now) (s .reals .now)) (s .body)) (c .before .before .before .before .before .before .fit-to-saw .ensures .0) in
+    let p = crossed (c .put-fit .ensures) (checkNumber (s .room .now) (s .words .now) (s .reals .now) (s .body) sawing (s .faces .now) (s .edges .now)) (sawable (decode (s .room .now) (s .words .now) (s .reals .now)) (s .body)) (c .before .before .before .before .before .before .fit-to-saw .ensures .0) in
     (p .0, (p .1, c .before .before .before .before .before .before .fit-to-saw .ensures .1))
 
 pub fit-of-spec : {M : Type 1} → statement M

@@ -4,6 +4,7 @@ use lib.ListN.{length}
 use Rattle.meaning.specs.Faults.{counts}
 use Rattle.checker.specs.Calls.{asked, seenCounts, reportOn, checkNumber, checkAnswer}
 use Rattle.handed.specs.Handed.{wanted}
+use Rattle.lent.specs.Laws.{crossed}
 use borrow.Author.Needs.{needs}
 use Rattle.measures.proofs.report_of.Statement.{statement}
 use Rattle.measures.proofs.report_of.Tie as tie
@@ -27,7 +28,7 @@ returns : tie.Need-returns
 unfolding checkAnswer
 returns c =
     let s = c .before .before .before .before .before .before .before .before .before .before .before .before .before .before .before .before .before .args in
-    let p = c .put-counts .ensures .crossed (checkNumber (s .room .now) (s .words .now) (s .reals .now) (s .body) (asked (wanted (s .geometry)) (s .samples)) (s .faces .now) (s .edges .now)) (seenCounts (counts (length (s .nums .now) / 4) (reportOn (s .room .now) (s .words .now) (s .reals .now) (s .body) (asked (wanted (s .geometry)) (s .samples))))) (c .before .before .before .before .before .before .before .before .check-body .ensures .0) in
+    let p = crossed (c .put-counts .ensures) (checkNumber (s .room .now) (s .words .now) (s .reals .now) (s .body) (asked (wanted (s .geometry)) (s .samples)) (s .faces .now) (s .edges .now)) (seenCounts (counts (length (s .nums .now) / 4) (reportOn (s .room .now) (s .words .now) (s .reals .now) (s .body) (asked (wanted (s .geometry)) (s .samples))))) (c .before .before .before .before .before .before .before .before .check-body .ensures .0) in
     (p .0, (p .1, c .before .before .before .before .before .before .before .before .check-body .ensures .1))
 
 pub report-of-spec : {M : Type 1} → statement M

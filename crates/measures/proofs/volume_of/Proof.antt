@@ -3,6 +3,7 @@ use Rattle.numbers.specs.Ops.{zeroF}
 use Rattle.meaning.specs.Inquire.{solidSides, sumVolumes}
 use Rattle.model.specs.Decode.{decode}
 use Rattle.volumes.specs.Answers.{volumeNumber, volumeAnswer}
+use Rattle.lent.specs.Laws.{crossed}
 use borrow.Author.Needs.{needs}
 use Rattle.measures.proofs.volume_of.Statement.{statement}
 use Rattle.measures.proofs.volume_of.Tie as tie
@@ -20,7 +21,7 @@ returns : tie.Need-returns
 unfolding volumeAnswer
 returns c =
     let s = c .before .before .before .before .before .before .before .before .before .args in
-    let p = c .put-volume .ensures .crossed (volumeNumber (s .room .now) (s .words .now) (s .reals .now) (s .body) (s .faces .now)) (sumVolumes (decode (s .room .now) (s .words .now) (s .reals .now)) zeroF (solidSides (decode (s .room .now) (s .words .now) (s .reals .now)) (s .body))) (c .before .before .before .before .body-volume .ensures .0) in
+    let p = crossed (c .put-volume .ensures) (volumeNumber (s .room .now) (s .words .now) (s .reals .now) (s .body) (s .faces .now)) (sumVolumes (decode (s .room .now) (s .words .now) (s .reals .now)) zeroF (solidSides (decode (s .room .now) (s .words .now) (s .reals .now)) (s .body))) (c .before .before .before .before .body-volume .ensures .0) in
     (p .0, (p .1, c .before .before .before .before .body-volume .ensures .1))
 
 pub volume-of-spec : {M : Type 1} → statement M
