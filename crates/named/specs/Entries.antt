@@ -1,4 +1,4 @@
--- The eight lists by number are the model's lists, and the lookup of an entry answers with theirs. Assumes nothing.
+-- The eight lists by number are the model's lists, the lookup of an entry answers with theirs, and an entry is edited by the refusals of `meaning`. Assumes nothing.
 use Prim.Native.Nat.{ℕ, zero, suc, _<_}
 use native.Mathlib.Omega.{arith}
 use mathlib.Core.Path.{_≡_, refl, ap, _∙_}
@@ -11,6 +11,7 @@ use borrow.Author.Tests.{ltb-true}
 use Rattle.geometry.specs.Refuse.{_unless_, _then_, answer}
 use Rattle.meaning.specs.Model.{Model, has, body, region, shell, face, loop, edge}
 use Rattle.meaning.specs.Refuse.{Answer, answered}
+use Rattle.meaning.specs.Edits.{editRefusal}
 use Rattle.model.specs.declared.entries.Entry.the-variants.{Is, Refused}
 use Rattle.model.specs.Layout.{word}
 use Rattle.model.specs.Decode.{decode}
@@ -20,13 +21,13 @@ use Rattle.named.specs.Shown.{_else_, shown}
 use Rattle.named.specs.Laws.{behind-one}
 
 -- a list of a record: whether the record exists, and the list
-pub record Row : Type 0 where
+pub record RecordList : Type 0 where
   pub there : Bool
   pub entries : List ℕ
 
 -- the lists of the records under the id i, by number
-abbrev pub rows : Model → ℕ → List Row
-rows m i =
+abbrev pub recordLists : Model → ℕ → List RecordList
+recordLists m i =
     record { there = has (m .bodies) i; entries = body m i .regions }
     ∷ record { there = has (m .regions) i; entries = region m i .shells }
     ∷ record { there = has (m .shells) i; entries = shell m i .faces }
@@ -37,19 +38,19 @@ rows m i =
     ∷ record { there = has (m .edges) i; entries = edge m i .fins }
     ∷ []
 
-abbrev pub row : Model → ℕ → ℕ → Row
-row m j i = getD (rows m i) j (record { there = false; entries = [] })
+abbrev pub recordList : Model → ℕ → ℕ → RecordList
+recordList m j i = getD (recordLists m i) j (record { there = false; entries = [] })
 
 -- list j of record i, looked up at a place: 1 for a list that there is none of, 2 for a missing record, 1 for a place that isn't there
-abbrev pub placed : Row → ℕ → ℕ
+abbrev pub placed : RecordList → ℕ → ℕ
 placed r place = 2 unless (r .there) then 1 unless ltb place (length (r .entries))
 
 abbrev pub entry : Model → ℕ → ℕ → ℕ → Answer ℕ
-entry m j i place = answered (1 unless ltb j 8 then placed (row m j i) place) (getD (row m j i .entries) place 0)
+entry m j i place = answered (1 unless ltb j 8 then placed (recordList m j i) place) (getD (recordList m j i .entries) place 0)
 
 module _ (room w : List ℕ) (x : List Float) where
   -- list j of record i, and whether there is the record
-  pub list-is : (j i : ℕ) → j < 8 → record { there = ltb i (word w (word listTables j)); entries = listOf room w j i } ≡ row (decode room w x) j i
+  pub list-is : (j i : ℕ) → j < 8 → record { there = ltb i (word w (word listTables j)); entries = listOf room w j i } ≡ recordList (decode room w x) j i
   unfolding listOf decode
   list-is zero i h = refl
   list-is (suc zero) i h = refl
@@ -69,9 +70,21 @@ module _ (room w : List ℕ) (x : List Float) where
           → answer Is Refused (9 unless readable room w x then 1 unless b then 2 unless ltb i (word w (word listTables j)) then 1 unless ltb place (length (listOf room w j i)))
           (word (listOf room w j i) place)
           ≡ shown Is Refused
-          (9 unless readable room w x else answered (1 unless b then placed (row (decode room w x) j i) place) (getD (row (decode room w x) j i .entries) place 0))
+          (9 unless readable room w x else answered (1 unless b then placed (recordList (decode room w x) j i) place) (getD (recordList (decode room w x) j i .entries) place 0))
       go true h =
-          let r = row (decode room w x) j i in
-          ap (λ (r : Row). answer Is Refused (9 unless readable room w x then placed r place) (word (r .entries) place)) (list-is j i (h refl))
+          let r = recordList (decode room w x) j i in
+          ap (λ (r : RecordList). answer Is Refused (9 unless readable room w x then placed r place) (word (r .entries) place)) (list-is j i (h refl))
           ∙ behind-one Is Refused (λ v. v) (9 unless readable room w x) (placed r place) (word (r .entries) place)
       go false h = behind-one Is Refused (λ v. v) (9 unless readable room w x) 1 (word (listOf room w j i) place)
+
+  -- an entry put or struck: the refusals of an edit that takes no room
+  pub entry-edit-is : (j i place : ℕ)
+      → entryRefusal room w x j i place
+      ≡ (9 unless readable room w x then editRefusal (ltb j 8) (ltb i (word w (word listTables j))) (ltb place (length (listOf room w j i))) true)
+  unfolding entryRefusal
+  entry-edit-is j i place =
+      ap (λ (n : ℕ). 9 unless readable room w x then 1 unless ltb j 8 then 2 unless ltb i (word w (word listTables j)) then n) (no-room (ltb place (length (listOf room w j i))))
+    where
+      no-room : (b : Bool) → (1 unless b) ≡ (1 unless b then 8 unless true)
+      no-room true = refl
+      no-room false = refl

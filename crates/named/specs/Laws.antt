@@ -7,7 +7,7 @@ use lib.ListN.{length}
 use Rattle.geometry.specs.Refuse.{_unless_, _then_, answer}
 use Rattle.meaning.specs.Refuse.{answered}
 use Rattle.walks.specs.Calls.{handed}
-use Rattle.named.specs.Shown.{_else_, shown, within, Walked}
+use Rattle.named.specs.Shown.{_else_, shown, onList, WalkIs}
 
 -- a call that gives the refusal a first, and one that gives a, then b
 
@@ -29,13 +29,13 @@ handed-answer (suc n) l = refl
 
 -- a walk
 module _ (l : List ℕ) where
-  number-walked : (n : ℕ) → Walked (answered n l) n (handed n l)
+  number-walked : (n : ℕ) → WalkIs (answered n l) n (handed n l)
   unfolding handed
   number-walked zero = record { number = refl; list = refl }
   number-walked (suc n) = record { number = refl; list = refl }
 
   pub behind-walk : (a b n space : ℕ)
-      → Walked (within space (a then b else answered n l)) (a then b then n then 8 unless leb (length l) space) (handed (a then b then n then 8 unless leb (length l) space) l)
+      → WalkIs (onList space (a then b else answered n l)) (a then b then n then 8 unless leb (length l) space) (handed (a then b then n then 8 unless leb (length l) space) l)
   behind-walk zero zero zero space = number-walked (8 unless leb (length l) space)
   behind-walk zero zero (suc n) space = number-walked (suc n)
   behind-walk zero (suc b) n space = number-walked (suc b)

@@ -1,5 +1,5 @@
 -- 01's limits are `largest` of `meaning`; every other list of them is tied to it here. Assumes nothing.
-use Prim.Native.Nat.{ℕ}
+use Prim.Native.Nat.{ℕ, _+_}
 use mathlib.Core.Path.{_≡_, refl}
 use mathlib.Core.Bool.{Bool, _&&_}
 use mathlib.Core.List.{List, [], _∷_, map}
@@ -7,8 +7,8 @@ use lib.Dec.{leb}
 use lib.Ieee.{Float}
 use Rattle.meaning.specs.Lists.{run}
 use Rattle.meaning.specs.Model.{Limits, largest}
-use Rattle.model.specs.Names.{BODIES, REGIONS, SHELLS, FACES, LOOPS, EDGES, AT-BODY-KIND, AT-BODY-REGIONS, AT-REGION-SOLID, AT-REGION-SHELLS, AT-SHELL-FACES, AT-SHELL-WIRES, AT-SHELL-ACORNS, AT-FACE-FRONT, AT-FACE-BACK, AT-FACE-SURFACE, AT-FACE-SENSE, AT-FACE-LOOPS, AT-LOOP-FINS, AT-EDGE-START, AT-EDGE-END, AT-EDGE-CURVE, AT-EDGE-TOLERANCE, AT-EDGE-FINS, FLOAT-EDGE-TOLERANCE}
-use Rattle.model.specs.Layout.{largestTables, word, real}
+use Rattle.model.specs.Names.{BODIES, REGIONS, SHELLS, FACES, LOOPS, EDGES, AT-BODY-KIND, AT-BODY-REGIONS, AT-REGION-SOLID, AT-REGION-SHELLS, AT-SHELL-FACES, AT-SHELL-WIRES, AT-SHELL-ACORNS, AT-FACE-FRONT, AT-FACE-BACK, AT-FACE-SURFACE, AT-FACE-SENSE, AT-FACE-LOOPS, AT-LOOP-FINS, AT-FIN-PCURVE, AT-EDGE-START, AT-EDGE-END, AT-EDGE-CURVE, AT-EDGE-TOLERANCE, AT-EDGE-FINS, AT-VERTEX-TOLERANCE, AT-CARRIER-TAG, FLOAT-EDGE-TOLERANCE}
+use Rattle.model.specs.Layout.{wordStrides, largestTables, word, real}
 use Rattle.model.specs.Readable.{ownOk, recordOk}
 use Rattle.model.specs.Entries.{listLimits}
 use Rattle.cuts.specs.SplitNumber.{limits}
@@ -27,6 +27,25 @@ tables-are = refl
 -- the length to which an entry is appended
 pub lists-are : listLimits ≡ listsOf largest
 lists-are = refl
+
+-- how many words a record takes: it ends behind its last list, which has a count and room for as many entries as 01 allows, or behind its last field where it has none
+pub strides-are : wordStrides
+    ≡ (AT-BODY-REGIONS + 1 + largest .bodyRegions)
+    ∷ (AT-REGION-SHELLS + 1 + largest .regionShells)
+    ∷ (AT-SHELL-ACORNS + 1 + largest .shellAcornVertices)
+    ∷ (AT-FACE-LOOPS + 1 + largest .faceLoops)
+    ∷ (AT-LOOP-FINS + 1 + largest .loopFins)
+    ∷ (AT-FIN-PCURVE + 1)
+    ∷ (AT-EDGE-FINS + 1 + largest .edgeFins)
+    ∷ (AT-VERTEX-TOLERANCE + 1)
+    ∷ (AT-CARRIER-TAG + 1)
+    ∷ (AT-CARRIER-TAG + 1)
+    ∷ []
+strides-are = refl
+
+-- of a shell's three lists each begins where the one before it ends
+pub shell-lists-are : (AT-SHELL-WIRES ≡ AT-SHELL-FACES + 1 + largest .shellFaces) × (AT-SHELL-ACORNS ≡ AT-SHELL-WIRES + 1 + largest .shellWireEdges)
+shell-lists-are = (refl, refl)
 
 -- a split: 01, "capacity is what is lent, at most these"; the lists are no shorter and no longer
 pub split-tables-are : (room : List ℕ) → tablesOf (limits room) ≡ map (word room) (run 0 10)

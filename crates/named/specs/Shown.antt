@@ -19,11 +19,11 @@ shown is by (given a) = is a
 shown is by (refused n) = by n
 
 -- an answer that is a list, where a list of `space` entries is lent: 01, "In walks 2 precedes 8"
-abbrev pub within : ℕ → Answer (List ℕ) → Answer (List ℕ)
-within space (given l) = answered (8 unless leb (length l) space) l
-within space (refused n) = refused n
+abbrev pub onList : ℕ → Answer (List ℕ) → Answer (List ℕ)
+onList space (given l) = answered (8 unless leb (length l) space) l
+onList space (refused n) = refused n
 
 -- the number n and the list l that a walk gives are those of the answer a
-pub record Walked (a : Answer (List ℕ)) (n : ℕ) (l : List ℕ) : Type 0 where
+pub record WalkIs (a : Answer (List ℕ)) (n : ℕ) (l : List ℕ) : Type 0 where
   pub number : n ≡ shown (λ _. 0) (λ k. k) a
   pub list : l ≡ shown (λ k. k) (λ _. []) a

@@ -48,7 +48,7 @@ use Rattle.cuts.specs.SplitNumber.{limits, splitNumber}
 use Rattle.splits.specs.After.{splitAnswer}
 use Rattle.reasons.specs.Log.{faultsWords}
 use Rattle.checker.specs.Calls.{asked, seenCounts, reportOn, checkNumber, checkAnswer, checkWords, fitAnswer}
-use Rattle.named.specs.Shown.{_else_, shown, within, Walked}
+use Rattle.named.specs.Shown.{_else_, shown, onList, WalkIs}
 use Rattle.named.specs.Laws.{behind-one, behind-two, handed-answer, behind-walk}
 
 -- a range of parameters and the ids of a split, as the calls give them
@@ -121,22 +121,22 @@ module _ (room w : List ℕ) (x : List Float) where
     -- ---- the walks: the number, and the list handed back
 
     pub faces-are : (faceMarks out : List ℕ)
-        → Walked (within (length out) (9 unless readable room w x then 8 unless reach room FACES faceMarks else bodyFaces (decode room w x) b))
+        → WalkIs (onList (length out) (9 unless readable room w x then 8 unless reach room FACES faceMarks else bodyFaces (decode room w x) b))
         (facesNumber room w x b faceMarks out) (facesHanded room w x b faceMarks out)
     unfolding facesNumber facesHanded
     faces-are faceMarks out =
         behind-walk (faceWalk (decode room w x) b) (9 unless readable room w x) (8 unless reach room FACES faceMarks) (facesRefusal (decode room w x) b) (length out)
 
     pub edges-are : (faceMarks edgeMarks out : List ℕ)
-        → Walked (within (length out) (9 unless readable room w x then 8 unless reach room FACES faceMarks && reach room EDGES edgeMarks else bodyEdges (decode room w x) b))
+        → WalkIs (onList (length out) (9 unless readable room w x then 8 unless reach room FACES faceMarks && reach room EDGES edgeMarks else bodyEdges (decode room w x) b))
         (edgesNumber room w x b faceMarks edgeMarks out) (edgesHanded room w x b faceMarks edgeMarks out)
     unfolding edgesNumber edgesHanded
     edges-are faceMarks edgeMarks out =
         behind-walk (edgeWalk (decode room w x) b) (9 unless readable room w x) (8 unless reach room FACES faceMarks && reach room EDGES edgeMarks) (edgesRefusal (decode room w x) b) (length out)
 
     pub vertices-are : (faceMarks edgeMarks vertexMarks out : List ℕ)
-        → Walked
-        (within (length out)
+        → WalkIs
+        (onList (length out)
         (9 unless readable room w x then 8 unless reach room FACES faceMarks && reach room EDGES edgeMarks && reach room VERTICES vertexMarks else bodyVertices (decode room w x) b))
         (verticesNumber room w x b faceMarks edgeMarks vertexMarks out) (verticesHanded room w x b faceMarks edgeMarks vertexMarks out)
     unfolding verticesNumber verticesHanded
