@@ -15,12 +15,12 @@ use Rattle.frame.specs.Put.{unlessRefused}
 use Rattle.amended.specs.Place.{struck, withList}
 
 -- where list j of record i stands among the words
-unfoldable pub startOf : List ℕ → ℕ → ℕ → ℕ
-startOf room j i = wordAt room (word listTables j) i + word listPlaces j
+unfoldable pub listStart : List ℕ → ℕ → ℕ → ℕ
+listStart room j i = wordAt room (word listTables j) i + word listPlaces j
 
 -- the words with l as list j of record i
 unfoldable pub listWords : List ℕ → List ℕ → ℕ → ℕ → List ℕ → List ℕ
-listWords room w j i l = withList (startOf room j i) l w
+listWords room w j i l = withList (listStart room j i) l w
 
 module _ (room w : List ℕ) (x : List Float) where
   -- another id at a place, or the entry at a place struck: where there is an entry

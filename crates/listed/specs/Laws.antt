@@ -19,7 +19,7 @@ use Rattle.model.specs.Laws.{capacity-le, record-inside, words-length, list-roo
 use Rattle.frame.specs.Put.{putWords}
 use Rattle.frame.specs.Over.{over-within, part-within}
 use Rattle.amended.specs.Place.{withList}
-use Rattle.listed.specs.Answers.{startOf, listWords, appendNumber}
+use Rattle.listed.specs.Answers.{listStart, listWords, appendNumber}
 
 next : (at p : ℕ) → suc (at + p) ≡ at + suc p
 next at p = omega arith
@@ -43,15 +43,15 @@ module _ (room w : List ℕ) (j i : ℕ) (f : Lists room w) (list-there : j < 8)
   record-long : length (wordsOf room w k i) ≡ word wordStrides k
   record-long = words-length room w k i (list-inside room w j i f list-there there)
 
-  pub start-length : word w (startOf room j i) ≡ word (wordsOf room w k i) p
-  unfolding startOf wordsOf
+  pub start-length : word w (listStart room j i) ≡ word (wordsOf room w k i) p
+  unfolding listStart wordsOf
   start-length =
       let e = record-long in
       let r = in-record in
       sym (getD-take (word wordStrides k) (drop (wordAt room k i) w) p 0 (omega (arith, r .place)) ∙ getD-drop (wordAt room k i) w p 0)
 
-  pub start-held : Held w (startOf room j i)
-  unfolding startOf
+  pub start-held : Held w (listStart room j i)
+  unfolding listStart
   start-held =
       let e = record-long in
       let b = inside in
@@ -61,8 +61,8 @@ module _ (room w : List ℕ) (j i : ℕ) (f : Lists room w) (list-there : j < 8)
       let g = start-length in
       record { place = omega arith; whole = omega arith }
 
-  pub start-list : listAt w (startOf room j i) ≡ listOf room w j i
-  unfolding listAt listOf wordsOf startOf
+  pub start-list : listAt w (listStart room j i) ≡ listOf room w j i
+  unfolding listAt listOf wordsOf listStart
   start-list =
       let e = record-long in
       let r = in-record in
@@ -77,7 +77,7 @@ module _ (room w : List ℕ) (j i : ℕ) (f : Lists room w) (list-there : j < 8)
   -- the write of a list is the write of its record
   pub list-put : (new : List ℕ) → length new ≤ word listLimits j
       → listWords room w j i new ≡ putWords room k i (withList p new (wordsOf room w k i)) w
-  unfolding listWords withList putWords wordsOf startOf
+  unfolding listWords withList putWords wordsOf listStart
   list-put new h =
       let r = list-room j list-there in
       sym (over-within (wordAt room k i) p (word wordStrides k) (length new ∷ new) w (omega arith) inside)
@@ -90,11 +90,11 @@ module _ (room w : List ℕ) (j i : ℕ) (f : Lists room w) (list-there : j < 8)
       let b = a .slot in
       omega arith
 
-  pub start-entries : length (listOf room w j i) ≡ word w (startOf room j i)
-  start-entries = ap length (sym start-list) ∙ held-length w (startOf room j i) start-held
+  pub start-entries : length (listOf room w j i) ≡ word w (listStart room j i)
+  start-entries = ap length (sym start-list) ∙ held-length w (listStart room j i) start-held
 
-  pub start-room : word w (startOf room j i) < word listLimits j → (startOf room j i + 1 + word w (startOf room j i) < length w) × (word w (startOf room j i) < 1024)
-  unfolding startOf
+  pub start-room : word w (listStart room j i) < word listLimits j → (listStart room j i + 1 + word w (listStart room j i) < length w) × (word w (listStart room j i) < 1024)
+  unfolding listStart
   start-room h =
       let b = inside in
       let r = list-room j list-there in

@@ -14,13 +14,13 @@ ghost use mathlib.Core.Path.{_≡_};
 ghost use Prim.Native.Nat.{_<_, _≤_};
 ghost use Rattle.model.specs.Entries.{entryRefusal};
 ghost use Rattle.model.specs.Fit.{Small};
-ghost use Rattle.listed.specs.Answers.{startOf, putEntryWords, appendNumber, appendEntryWords, strikeEntryWords};
+ghost use Rattle.listed.specs.Answers.{listStart, putEntryWords, appendNumber, appendEntryWords, strikeEntryWords};
 
 // Where list j of record i stands among the words.
 fn start(room: &[usize; 10], j: usize, i: usize) -> usize
     requires { ⌜ Small (now room) ⌝ }
     requires { ⌜ (j < 8) × (i ≤ 4096) ⌝ }
-    ensures { λ r. ⌜ r ≡ startOf (now (room .entry)) j i ⌝ }
+    ensures { λ r. ⌜ r ≡ listStart (now (room .entry)) j i ⌝ }
 {
     word_at(room, list_table(j), i) + list_place(j)
 }

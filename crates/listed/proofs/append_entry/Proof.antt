@@ -6,7 +6,7 @@ use Rattle.meaning.specs.Edits.{appended}
 use Rattle.model.specs.Laws.{lists-of}
 use Rattle.frame.specs.Kept.{refused-keeps}
 use Rattle.amended.specs.Place.{withList}
-use Rattle.listed.specs.Answers.{startOf, listWords, appendNumber, appendEntryWords}
+use Rattle.listed.specs.Answers.{listStart, listWords, appendNumber, appendEntryWords}
 use Rattle.listed.specs.Laws.{start-held, start-list, start-small, start-entries, start-room, append-open}
 use borrow.Author.Needs.{needs}
 use Rattle.listed.proofs.append_entry.Statement.{statement}
@@ -72,7 +72,7 @@ returns-2 c =
       sym z,
       rw z
           (c .before .before .append-at .ensures
-          ∙ rw e (ap (λ (l : List ℕ). withList (startOf room j i) (appended l (s .args .id)) w) (start-list room w j i f (t .list) (t .record-there)))),
+          ∙ rw e (ap (λ (l : List ℕ). withList (listStart room j i) (appended l (s .args .id)) w) (start-list room w j i f (t .list) (t .record-there)))),
     )
 
 pub append-entry-spec : {M : Type 1} → statement M

@@ -7,7 +7,7 @@ use Rattle.model.specs.Entries.{entryRefusal}
 use Rattle.model.specs.Laws.{lists-of, entry-standing}
 use Rattle.frame.specs.Kept.{refused-keeps}
 use Rattle.amended.specs.Place.{withList}
-use Rattle.listed.specs.Answers.{startOf, listWords, putEntryWords}
+use Rattle.listed.specs.Answers.{listStart, listWords, putEntryWords}
 use Rattle.listed.specs.Laws.{start-held, start-list, start-small, start-entries}
 use borrow.Author.Needs.{needs}
 use Rattle.listed.proofs.put_entry.Statement.{statement}
@@ -72,7 +72,7 @@ returns-2 c =
       sym z,
       rw z
           (c .before .before .put-at .ensures
-          ∙ rw e (ap (λ (l : List ℕ). withList (startOf room j i) (set l (s .args .place) (s .args .id)) w) (start-list room w j i f (t .list) (t .record-there)))),
+          ∙ rw e (ap (λ (l : List ℕ). withList (listStart room j i) (set l (s .args .place) (s .args .id)) w) (start-list room w j i f (t .list) (t .record-there)))),
     )
 
 pub put-entry-spec : {M : Type 1} → statement M

@@ -3,7 +3,7 @@ use native.Mathlib.Omega.{arith}
 use Rattle.model.specs.Layout.{wordStrides, word}
 use Rattle.model.specs.Entries.{listTables}
 use Rattle.model.specs.Laws.{words-strides, stride-le, base-le, list-table, list-room}
-use Rattle.listed.specs.Answers.{startOf}
+use Rattle.listed.specs.Answers.{listStart}
 use borrow.Author.Needs.{needs}
 use Rattle.listed.proofs.start.Statement.{statement}
 use Rattle.listed.proofs.start.Tie as tie
@@ -38,7 +38,7 @@ add-result c =
     record { fits = omega arith }
 
 returns : tie.Need-returns
-unfolding startOf
+unfolding listStart
 returns c = rw (c .list-place .ensures, c .before .word-at .ensures, c .before .before .list-table .ensures)
 
 pub start-spec : {M : Type 1} → statement M

@@ -6,7 +6,7 @@ use Rattle.model.specs.Entries.{entryRefusal}
 use Rattle.model.specs.Laws.{lists-of, entry-standing}
 use Rattle.frame.specs.Kept.{refused-keeps}
 use Rattle.amended.specs.Place.{struck, withList}
-use Rattle.listed.specs.Answers.{startOf, listWords, strikeEntryWords}
+use Rattle.listed.specs.Answers.{listStart, listWords, strikeEntryWords}
 use Rattle.listed.specs.Laws.{start-held, start-list, start-small, start-entries}
 use borrow.Author.Needs.{needs}
 use Rattle.listed.proofs.strike_entry.Statement.{statement}
@@ -71,7 +71,7 @@ returns-2 c =
       sym z,
       rw z
           (c .before .before .strike-at .ensures
-          ∙ rw e (ap (λ (l : List ℕ). withList (startOf room j i) (struck l (s .args .place)) w) (start-list room w j i f (t .list) (t .record-there)))),
+          ∙ rw e (ap (λ (l : List ℕ). withList (listStart room j i) (struck l (s .args .place)) w) (start-list room w j i f (t .list) (t .record-there)))),
     )
 
 pub strike-entry-spec : {M : Type 1} → statement M
