@@ -24,7 +24,7 @@ use Rattle.frame.specs.Frame.{length-put, put-there, put-elsewhere, put-before}
 use Rattle.amended.specs.Place.{withList}
 use Rattle.listed.specs.Records.{word-length, word-behind}
 use Rattle.beside.specs.Beside.{entriesFor, doubled}
-use Rattle.pieces.specs.Pieces.{finWords, newFin, secondFields, countsPut, floatsPut}
+use Rattle.pieces.specs.Pieces.{finWords, newFinWords, secondFields, countsPut, floatsPut}
 use Rattle.pieces.specs.Facts.{Slots}
 use Rattle.pieces.specs.Laws.{edge-long, second-long}
 use Rattle.pieces.specs.Steps.{Stage}
@@ -154,7 +154,7 @@ module _ (room w : List ℕ) (x : List Float) (e : ℕ) (t : Float) (a : Accepte
   pub old-fin : (j : ℕ) → j < word w 5 → wordsOf room w′ 5 j ≡ wordsOf room w 5 j
   old-fin j h = reads 5 j (in-use 5 j (omega arith) h) ∙ rw (lt-leb (word w 5) j h) refl
 
-  pub new-fin : (j : ℕ) → word w 5 ≤ j → j < word w 5 + n → wordsOf room w′ 5 j ≡ newFin owners senses (word w 6) (j - word w 5)
+  pub new-fin : (j : ℕ) → word w 5 ≤ j → j < word w 5 + n → wordsOf room w′ 5 j ≡ newFinWords owners senses (word w 6) (j - word w 5)
   new-fin j h g = let f = room-kept .fins in reads 5 j (omega arith) ∙ rw (le-leb (word w 5) j h, lt-ltb j (word w 5 + n) g) refl
 
   -- the edges

@@ -20,7 +20,7 @@ use Rattle.model.specs.Laws.{used-inside, words-length, lists-of}
 use Rattle.frame.specs.Change.{SameTable, SameModel}
 use Rattle.listed.specs.Records.{shell-wires, loop-list}
 use Rattle.beside.specs.Beside.{entriesFor}
-use Rattle.pieces.specs.Pieces.{finWord, finWords, newFin}
+use Rattle.pieces.specs.Pieces.{finWord, finWords, newFinWords}
 use Rattle.pieces.specs.Laws.{edge-long}
 use Rattle.splits.specs.Named.{nth-map, entries-fin, entries-wire}
 use Rattle.splits.specs.Rooms.{Accepted, loop-fits, shell-fits}
@@ -90,8 +90,8 @@ module _ (room w : List ℕ) (x : List Float) (e : ℕ) (t : Float) (a : Accepte
   -- ---- fins
 
   new-fin-means : (k : ℕ) → k < length (listOf room w 7 e)
-      → finOf (newFin (finWords room w 0 (listOf room w 7 e)) (finWords room w 2 (listOf room w 7 e)) (word w 6) k) ≡ finCopy m (getD (listOf room w 7 e) k 0)
-  unfolding decode newFin finWords finWord
+      → finOf (newFinWords (finWords room w 0 (listOf room w 7 e)) (finWords room w 2 (listOf room w 7 e)) (word w 6) k) ≡ finCopy m (getD (listOf room w 7 e) k 0)
+  unfolding decode newFinWords finWords finWord
   new-fin-means k h = rw (nth-map (finWord room w 0) (listOf room w 7 e) k h, nth-map (finWord room w 2) (listOf room w 7 e) k h)
 
   fins-same : SameTable (table room wa xa 5 (λ s _. finOf s))

@@ -19,7 +19,7 @@ use Rattle.model.specs.Fit.{Fit}
 use Rattle.model.specs.Laws.{used-inside, words-length}
 use Rattle.listed.specs.Records.{still-ok}
 use Rattle.beside.specs.Beside.{entriesFor}
-use Rattle.pieces.specs.Pieces.{finWord, finWords, newFin}
+use Rattle.pieces.specs.Pieces.{finWord, finWords, newFinWords}
 use Rattle.pieces.specs.Laws.{edge-long}
 use Rattle.splits.specs.Named.{nth-map}
 use Rattle.splits.specs.Rooms.{Accepted, loop-fits, shell-fits}
@@ -97,8 +97,8 @@ module _ (room w : List ℕ) (x : List Float) (e : ℕ) (t : Float) (a : Accepte
   -- ---- fins
 
   new-fin-ok : (k : ℕ) (y : List Float) → k < length (listOf room w 7 e)
-      → recordOk 5 (newFin (finWords room w 0 (listOf room w 7 e)) (finWords room w 2 (listOf room w 7 e)) (word w 6) k) y ≡ true
-  unfolding recordOk newFin finWords finWord
+      → recordOk 5 (newFinWords (finWords room w 0 (listOf room w 7 e)) (finWords room w 2 (listOf room w 7 e)) (word w 6) k) y ≡ true
+  unfolding recordOk newFinWords finWords finWord
   new-fin-ok k y h =
       let i : ℕ = word (listOf room w 7 e) k in
       let r : List ℕ = wordsOf room w 5 i in

@@ -17,7 +17,7 @@ use Rattle.frame.specs.Over.{length-over, over-none}
 use Rattle.beside.specs.Laws.{one-store, over-behind}
 use Rattle.halves.specs.Pass.{putAll}
 use Rattle.halves.specs.Laws.{all-long}
-use Rattle.pieces.specs.Pieces.{newFin, secondFields}
+use Rattle.pieces.specs.Pieces.{newFinWords, secondFields}
 use Rattle.pieces.specs.Facts.{Slots, secondRoom}
 
 -- a list written whole
@@ -106,25 +106,25 @@ module _ (room w : List ℕ) (n : ℕ) (s : Slots room w n) where
 
 -- ---- new fins
 
-pub new-fin-long : (owners senses : List ℕ) (e k : ℕ) → length (newFin owners senses e k) ≡ 4
-unfolding newFin
+pub new-fin-long : (owners senses : List ℕ) (e k : ℕ) → length (newFinWords owners senses e k) ≡ 4
+unfolding newFinWords
 new-fin-long owners senses e k = refl
 
 module _ (room w owners senses : List ℕ) (s : Slots room w (length owners)) where
   abbrev pub finsUpTo : ℕ → List ℕ
-  finsUpTo k = putAll room 5 (word w 5) (newFin owners senses (word w 6)) k w
+  finsUpTo k = putAll room 5 (word w 5) (newFinWords owners senses (word w 6)) k w
 
   pub fins-long : (k : ℕ) → k ≤ length owners → length (finsUpTo k) ≡ length w
   fins-long k h =
       let f = s .fins in
-      all-long room 5 (word w 5) (newFin owners senses (word w 6)) w (omega arith) (s .enough) k (omega arith) (λ j g. new-fin-long owners senses (word w 6) j)
+      all-long room 5 (word w 5) (newFinWords owners senses (word w 6)) w (omega arith) (s .enough) k (omega arith) (λ j g. new-fin-long owners senses (word w 6) j)
 
   pub fin-inside : (k : ℕ) → k < length owners → (v : List ℕ) → length v ≡ length w → Inside (wordsNeeded room) (length v) room 5 (word w 5 + k)
   fin-inside k h v l = let f = s .fins in let e = s .enough in record { enough = omega arith; table = omega arith; slot = omega arith }
 
   pub fins-turn : (k : ℕ) → k < length owners → (v : List ℕ) → v ≡ finsUpTo k
       → putWords room 5 (word w 5 + k) (over 0 (word owners k ∷ word w 6 ∷ word senses k ∷ 0 ∷ []) (wordsOf room v 5 (word w 5 + k))) v ≡ finsUpTo (k + 1)
-  unfolding putAll newFin
+  unfolding putAll newFinWords
   fins-turn k h v e =
       let l : length v ≡ length w = ap length e ∙ fins-long k (omega arith) in
       let new : List ℕ = word owners k ∷ word w 6 ∷ word senses k ∷ 0 ∷ [] in

@@ -20,8 +20,8 @@ unfoldable pub finWords : List ℕ → List ℕ → ℕ → List ℕ → List �
 finWords room w p fins = map (finWord room w p) fins
 
 -- new fin k: the loop and the sense of the old one, the new edge, and no pcurve
-unfoldable pub newFin : List ℕ → List ℕ → ℕ → ℕ → List ℕ
-newFin owners senses edge k = word owners k ∷ edge ∷ word senses k ∷ 0 ∷ []
+unfoldable pub newFinWords : List ℕ → List ℕ → ℕ → ℕ → List ℕ
+newFinWords owners senses edge k = word owners k ∷ edge ∷ word senses k ∷ 0 ∷ []
 
 -- "the new one the end, curve and tolerance": the new edge's first words, where s are the old one's: it starts at the new vertex, and lists n new fins from the first on
 unfoldable pub secondFields : List ℕ → ℕ → ℕ → ℕ → List ℕ
@@ -39,7 +39,7 @@ wiresPut room e w = putAll room SHELLS 0 (doubledAt room w SHELLS AT-SHELL-WIRES
 
 -- "new fins are made in the old edge's fin order"
 unfoldable pub finsPut : List ℕ → List ℕ → List ℕ → List ℕ → List ℕ
-finsPut room owners senses w = putAll room FINS (word w FINS) (newFin owners senses (word w EDGES)) (length owners) w
+finsPut room owners senses w = putAll room FINS (word w FINS) (newFinWords owners senses (word w EDGES)) (length owners) w
 
 -- the new edge, in the next slot
 unfoldable pub secondPut : List ℕ → ℕ → ℕ → List ℕ → List ℕ

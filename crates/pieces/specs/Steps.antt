@@ -19,7 +19,7 @@ use Rattle.beside.specs.Beside.{entriesFor, doubled}
 use Rattle.halves.specs.Pass.{putAll, doubledAt}
 use Rattle.halves.specs.Facts.{Roomy}
 use Rattle.halves.specs.Laws.{all-long, all-else, all-counts, each-whole}
-use Rattle.pieces.specs.Pieces.{newFin, secondFields, loopsPut, wiresPut, finsPut, secondPut, firstPut, vertexPut}
+use Rattle.pieces.specs.Pieces.{newFinWords, secondFields, loopsPut, wiresPut, finsPut, secondPut, firstPut, vertexPut}
 use Rattle.pieces.specs.Facts.{Slots}
 use Rattle.pieces.specs.Laws.{second-long, edge-inside, edge-long, vertex-inside, new-fin-long}
 
@@ -203,12 +203,12 @@ module _ (room w₀ w : List ℕ) (old : ℕ → ℕ → List ℕ) (s : Stage ro
 
   pub stage-fins : (owners senses : List ℕ) → length owners ≡ n
       → Stage room w₀ (finsPut room owners senses w)
-      (with 5 (λ j. leb (word w₀ 5) j && ltb j (word w₀ 5 + n)) (λ j. newFin owners senses (word w₀ 6) (j - word w₀ 5)) old)
+      (with 5 (λ j. leb (word w₀ 5) j && ltb j (word w₀ 5 + n)) (λ j. newFinWords owners senses (word w₀ 6) (j - word w₀ 5)) old)
   unfolding finsPut
   stage-fins owners senses e =
       let a = f .fins in
       let b = u5 in
-      rw (e, u5, u6) (stage-all room w₀ w old s 5 (word w₀ 5) (newFin owners senses (word w₀ 6)) (omega arith) (f .enough) n (omega arith) (λ j h. new-fin-long owners senses (word w₀ 6) j))
+      rw (e, u5, u6) (stage-all room w₀ w old s 5 (word w₀ 5) (newFinWords owners senses (word w₀ 6)) (omega arith) (f .enough) n (omega arith) (λ j h. new-fin-long owners senses (word w₀ 6) j))
 
   module _ (e : ℕ) (there : e < word w 6) where
     abbrev old-edge : List ℕ

@@ -10,7 +10,7 @@ use Rattle.model.specs.Layout.{word, wordsOf}
 use Rattle.frame.specs.Put.{over}
 use Rattle.beside.specs.Beside.{entriesFor, doubled}
 use Rattle.halves.specs.Facts.{Roomy}
-use Rattle.pieces.specs.Pieces.{newFin, secondFields, loopsPut, finsPut, secondPut, firstPut}
+use Rattle.pieces.specs.Pieces.{newFinWords, secondFields, loopsPut, finsPut, secondPut, firstPut}
 use Rattle.pieces.specs.Facts.{Slots}
 use Rattle.pieces.specs.Steps.{Stage, with, slots-kept, slots-fewer, roomy-kept, stage-loops, stage-wires, stage-fins, stage-second, stage-first, stage-vertex}
 use Rattle.seams.specs.Written.{listsPut, recordsPut}
@@ -27,7 +27,7 @@ module _ (w₀ : List ℕ) (old : ℕ → ℕ → List ℕ) where
   withWires e = with 2 (λ j. ltb j (word w₀ 2)) (λ j. doubled (entriesFor (e ∷ []) (0 ∷ []) (0 ∷ []) 0 (word w₀ 6)) 514 (old 2 j)) old
 
   abbrev pub withFins : List ℕ → List ℕ → ℕ → ℕ → List ℕ
-  withFins owners senses = with 5 (λ j. leb (word w₀ 5) j && ltb j (word w₀ 5 + length owners)) (λ j. newFin owners senses (word w₀ 6) (j - word w₀ 5)) old
+  withFins owners senses = with 5 (λ j. leb (word w₀ 5) j && ltb j (word w₀ 5 + length owners)) (λ j. newFinWords owners senses (word w₀ 6) (j - word w₀ 5)) old
 
   abbrev pub withSecond : ℕ → ℕ → ℕ → ℕ → List ℕ
   withSecond e n = with 6 (λ j. eqb j (word w₀ 6)) (λ _. over 0 (secondFields (old 6 e) (word w₀ 7) (word w₀ 5) n) (old 6 (word w₀ 6))) old

@@ -2,7 +2,7 @@ use Prim.Native.Nat.{_+_}
 use Rattle.model.specs.Layout.{word}
 use borrow.Author.Needs.{needs}
 use Rattle.pieces.specs.Laws.{fins-long, fin-inside, fins-turn}
-use Rattle.pieces.specs.Pieces.{newFin, finsPut}
+use Rattle.pieces.specs.Pieces.{newFinWords, finsPut}
 use Rattle.halves.specs.Pass.{putAll}
 use lib.ListN.{length}
 use mathlib.Core.Path.{_≡_, refl, ap, _∙_}
@@ -12,7 +12,7 @@ use Rattle.pieces.proofs.fins.put_fins.Statement.{statement}
 use Rattle.pieces.proofs.fins.put_fins.Tie as tie
 
 abbrev Inv-loop : tie.InvT-loop
-Inv-loop room words₀ owners senses from edge k₀ words k = (k ≤ length owners) × (length words ≡ length words₀) × (words ≡ putAll room 5 from (newFin owners senses edge) k words₀)
+Inv-loop room words₀ owners senses from edge k₀ words k = (k ≤ length owners) × (length words ≡ length words₀) × (words ≡ putAll room 5 from (newFinWords owners senses edge) k words₀)
 
 abbrev μ-loop : tie.MeasureT-loop
 μ-loop room words₀ owners senses from edge k₀ words k = length owners - k
@@ -74,7 +74,7 @@ unfolding finsPut
 returns c =
     let s = c .before .before .before .before .before .before .before in
     let done : c .before .loop .k ≡ length (s .args .owners .now) = omega arith in
-    c .before .loop .inv .2 ∙ ap (λ n. putAll (s .args .room .now) 5 (word (s .args .words .now) 5) (newFin (s .args .owners .now) (s .args .senses .now) (word (s .args .words .now) 6)) n (s .args .words .now)) done
+    c .before .loop .inv .2 ∙ ap (λ n. putAll (s .args .room .now) 5 (word (s .args .words .now) 5) (newFinWords (s .args .owners .now) (s .args .senses .now) (word (s .args .words .now) 6)) n (s .args .words .now)) done
 
 pub put-fins-spec : {M : Type 1} → statement M
 put-fins-spec =
