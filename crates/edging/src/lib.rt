@@ -9,6 +9,7 @@ use points::curve_test;
 use points::point_on_surface;
 use points::sample_tests;
 use reasons::Tally;
+use reasons::VERTEX;
 use rims::Param;
 use rims::parameter_at;
 use rims::ring;
@@ -39,7 +40,7 @@ fn end_at(
     ensures { λ r. ⌜ Noted (endAt curve surface p own tol e v) (now (nums .entry)) t (now (nums .exit)) r ⌝ }
 {
     let a = curve_test(nums, t, curve, p, own, tol, e, v);
-    point_on_surface(nums, a, surface, p, own, 23, 7, v)
+    point_on_surface(nums, a, surface, p, own, 23, VERTEX, v)
 }
 
 // The same of a vertex by its id; a missing one is passed over.

@@ -1,5 +1,5 @@
 // Points held against curves and surfaces, what is found of it logged (`point_on_surface` and parts of `fin_geometry` of
-// gensolid-check's lib.rs). Tables 6 and 7 stand for the classes edge and vertex.
+// gensolid-check's lib.rs).
 use offsets::off_curve;
 use queried::Evaluated;
 use queried::Measured;
@@ -7,6 +7,7 @@ use queried::Projected;
 use queried::distance_to_surface;
 use queried::eval_curve;
 use queried::project_to_curve;
+use reasons::EDGE;
 use reasons::Tally;
 use reasons::note_if;
 use remarks::geometry_error;
@@ -34,7 +35,7 @@ pub fn curve_test(
     ensures { λ r. ⌜ Noted (curveFindings curve p vertex edge e v) (now (nums .entry)) t (now (nums .exit)) r ⌝ }
 {
     match project_to_curve(curve, p) {
-        Projected::Refused(n) => geometry_error(nums, t, n, 6, e),
+        Projected::Refused(n) => geometry_error(nums, t, n, EDGE, e),
         Projected::At(near) => {
             note_off_curve(nums, t, off_curve(p, near.point, vertex, edge), v)
         }
@@ -76,8 +77,8 @@ fn sample_test(
     ensures { λ r. ⌜ Noted (sampleFindings curve surface tolerance e at) (now (nums .entry)) t (now (nums .exit)) r ⌝ }
 {
     match eval_curve(curve, at) {
-        Evaluated::Refused(n) => geometry_error(nums, t, n, 6, e),
-        Evaluated::At(p) => point_on_surface(nums, t, surface, p, tolerance, 24, 6, e),
+        Evaluated::Refused(n) => geometry_error(nums, t, n, EDGE, e),
+        Evaluated::At(p) => point_on_surface(nums, t, surface, p, tolerance, 24, EDGE, e),
     }
 }
 
