@@ -14,6 +14,7 @@ use present::EntityRef;
 use vectors::vector::Point3;
 ghost use mathlib.Core.Path.{_≡_};
 ghost use Prim.Native.Nat.{_<_};
+ghost use Rattle.model.specs.Names.{FLOAT-VERTEX-POINT};
 ghost use Rattle.model.specs.Decode.{pointAt};
 ghost use Rattle.lent.specs.Lent.{was};
 ghost use Rattle.crossings.specs.Given.{bodyKnown, regionKnown, faceKnown, finKnown, ownKnown, carrierKnown, entityOf};
@@ -60,7 +61,7 @@ pub fn carrier_known(value: &[u32; 1]) -> bool
 }
 
 pub fn point_of(floats: &[f64; 4]) -> Point3
-    ensures { λ r. ⌜ r ≡ pointAt (was floats) 0 ⌝ }
+    ensures { λ r. ⌜ r ≡ pointAt (was floats) FLOAT-VERTEX-POINT ⌝ }
 {
     Point3 {
         x: floats[0],
