@@ -1,6 +1,6 @@
 // Making an empty model (model.rs, `Model::new`). `specs/Answers.antt` says what it answers and leaves.
 use allowed::precision_ok;
-use legible::lent;
+use legible::lent_ok;
 use model::names::PRECISION;
 use writes::write::clear;
 ghost use mathlib.Core.Path.{_≡_};
@@ -10,7 +10,7 @@ ghost use Rattle.blank.specs.Answers.{makeNumber, makeWords, makeReals};
 fn make_refusal(room: &[usize; 10], words: &[u32], reals: &[f64], precision: f64) -> u32
     ensures { λ r. ⌜ r ≡ makeNumber (now (room .entry)) (now (words .entry)) (now (reals .entry)) precision ⌝ }
 {
-    if !lent(room, words, reals) {
+    if !lent_ok(room, words, reals) {
         return 9;
     }
     if !precision_ok(precision) {

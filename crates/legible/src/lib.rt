@@ -107,7 +107,7 @@ fn counts_ok(room: &[usize; 10], words: &[u32]) -> bool
 }
 
 // Do the capacities and the lent memory agree?
-pub fn lent(room: &[usize; 10], words: &[u32], reals: &[f64]) -> bool
+pub fn lent_ok(room: &[usize; 10], words: &[u32], reals: &[f64]) -> bool
     ensures { λ r. ⌜ r ≡ lentOk (now (room .entry)) (now (words .entry)) (now (reals .entry)) ⌝ }
 {
     if !room_ok(room) {
@@ -123,7 +123,7 @@ pub fn lent(room: &[usize; 10], words: &[u32], reals: &[f64]) -> bool
 fn sized(room: &[usize; 10], words: &[u32], reals: &[f64]) -> bool
     ensures { λ r. ⌜ r ≡ sizedOk (now (room .entry)) (now (words .entry)) (now (reals .entry)) ⌝ }
 {
-    if !lent(room, words, reals) {
+    if !lent_ok(room, words, reals) {
         return false;
     }
     counts_ok(room, words)

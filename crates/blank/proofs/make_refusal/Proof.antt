@@ -9,8 +9,8 @@ use borrow.Author.Needs.{needs}
 use Rattle.blank.proofs.make_refusal.Statement.{statement}
 use Rattle.blank.proofs.make_refusal.Tie as tie
 
-lent-requires : tie.Need-lent-requires
-lent-requires c κs = search needs
+lent-ok-requires : tie.Need-lent-ok-requires
+lent-ok-requires c κs = search needs
 
 returns : tie.Need-returns
 unfolding makeNumber
@@ -19,7 +19,7 @@ returns c =
     let room = s .args .room .now in
     let w = s .args .words .now in
     let x = s .args .reals .now in
-    let e : lentOk room w x ≡ false = sym (c .before .lent .ensures) ∙ not-true (c .before .lent .result) (c .if1 .taken) in
+    let e : lentOk room w x ≡ false = sym (c .before .lent-ok .ensures) ∙ not-true (c .before .lent-ok .result) (c .if1 .taken) in
     rw e
 
 precision-ok-requires : tie.Need-precision-ok-requires
@@ -32,7 +32,7 @@ returns-2 c =
     let room = s .args .room .now in
     let w = s .args .words .now in
     let x = s .args .reals .now in
-    let e : lentOk room w x ≡ true = sym (c .before .before .before .lent .ensures) ∙ not-false (c .before .before .before .lent .result) (c .before .before .if1 .left) in
+    let e : lentOk room w x ≡ true = sym (c .before .before .before .lent-ok .ensures) ∙ not-false (c .before .before .before .lent-ok .result) (c .before .before .if1 .left) in
     let f : precisionOk (s .args .precision) ≡ false = sym (c .before .precision-ok .ensures) ∙ not-true (c .before .precision-ok .result) (c .if2 .taken) in
     rw (e, f)
 
@@ -43,10 +43,10 @@ returns-3 c =
     let room = s .args .room .now in
     let w = s .args .words .now in
     let x = s .args .reals .now in
-    let e : lentOk room w x ≡ true = sym (c .before .before .before .lent .ensures) ∙ not-false (c .before .before .before .lent .result) (c .before .before .if1 .left) in
+    let e : lentOk room w x ≡ true = sym (c .before .before .before .lent-ok .ensures) ∙ not-false (c .before .before .before .lent-ok .result) (c .before .before .if1 .left) in
     let f : precisionOk (s .args .precision) ≡ true = sym (c .before .precision-ok .ensures) ∙ not-false (c .before .precision-ok .result) (c .if2 .left) in
     rw (e, f)
 
 pub make-refusal-spec : {M : Type 1} → statement M
 make-refusal-spec =
-    tie.close (tie.spec lent-requires returns precision-ok-requires returns-2 returns-3)
+    tie.close (tie.spec lent-ok-requires returns precision-ok-requires returns-2 returns-3)

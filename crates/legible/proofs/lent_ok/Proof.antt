@@ -1,4 +1,4 @@
--- `legible::lent` meets its contract: each way out is the first test that fails. Assumes nothing.
+-- `legible::lent_ok` meets its contract: each way out is the first test that fails. Assumes nothing.
 use mathlib.Core.Path.{_≡_, sym, _∙_}
 use mathlib.Core.Bool.{true, false, and-true}
 use borrow.Author.Tests.{not-true, not-false, lt-leb, le-leb}
@@ -9,8 +9,8 @@ use Rattle.model.specs.Layout.{wordsNeeded, realsNeeded}
 use Rattle.model.specs.Readable.{roomOk, lentOk}
 use Rattle.model.specs.Laws.{small-of}
 use borrow.Author.Needs.{needs}
-use Rattle.legible.proofs.lent.Statement.{statement}
-use Rattle.legible.proofs.lent.Tie as tie
+use Rattle.legible.proofs.lent_ok.Statement.{statement}
+use Rattle.legible.proofs.lent_ok.Tie as tie
 
 room-ok-requires : tie.Need-room-ok-requires
 room-ok-requires c κs = search needs
@@ -43,8 +43,8 @@ returns-3 c =
     let w : leb (wordsNeeded (s .args .room .now)) (length (s .args .words .now)) ≡ true = le-leb _ _ (rw (c .before .before .words-needed .ensures) at (c .before .if2 .left)) in
     rw (a, w, and-true, c .reals-needed .ensures)
 
-pub lent-spec : {M : Type 1} → statement M
-lent-spec =
+pub lent-ok-spec : {M : Type 1} → statement M
+lent-ok-spec =
     tie.close
     (tie.spec
     room-ok-requires
