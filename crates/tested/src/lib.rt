@@ -31,7 +31,8 @@ ghost use Rattle.model.specs.Layout.{wordStrides, word};
 ghost use Rattle.model.specs.Readable.{faceOk, loopOk, finOk, edgeOk, vertexOk, carrierOk, recordOk};
 ghost use Rattle.model.specs.Fit.{Whole};
 
-// The four tags that a face has, and an edge: three optional ids, then a sense or an optional tolerance.
+// The four tags that a face has, and an edge: three optional ids, then a sense or an optional tolerance. The places are numbers
+// here, as they have one name in a face and another in an edge.
 fn marked(w: &[u32]) -> bool
     requires { ⌜ 8 ≤ length (now w) ⌝ }
     ensures { λ r. ⌜ r ≡ (leb (word (now (w .entry)) 0) 1 && leb (word (now (w .entry)) 2) 1 && leb (word (now (w .entry)) 4) 1 && leb (word (now (w .entry)) 6) 1) ⌝ }
