@@ -10,6 +10,7 @@ use vectors::vector::Vec3;
 ghost use mathlib.Core.Path.{_≡_};
 ghost use Prim.Native.Nat.{_+_, _≤_, _<_};
 ghost use lib.ListN.{length};
+ghost use Rattle.model.specs.Names.{FLOAT-CARRIER-ORIGIN, FLOAT-CARRIER-DIRECTION};
 ghost use Rattle.model.specs.Decode.{maybeAt, senseOf, kindOf, toleranceOf, pointAt, vecAt, carrierOf};
 ghost use Rattle.entity.specs.Seen.{seenRef, seenSense, seenKind};
 
@@ -126,10 +127,10 @@ pub fn tolerance_of(tag: u32, own: f64) -> Tolerance
     Tolerance::Own(own)
 }
 
-// The first three floats of a vertex or a carrier.
+// The first three floats of a carrier, its origin, or of a vertex, its point.
 pub fn point_of(x: &[f64]) -> Point3
     requires { ⌜ 3 ≤ length (now x) ⌝ }
-    ensures { λ r. ⌜ r ≡ pointAt (now (x .entry)) 0 ⌝ }
+    ensures { λ r. ⌜ r ≡ pointAt (now (x .entry)) FLOAT-CARRIER-ORIGIN ⌝ }
 {
     Point3 {
         x: x[0],
@@ -138,10 +139,10 @@ pub fn point_of(x: &[f64]) -> Point3
     }
 }
 
-// The last three of a carrier.
+// The last three of a carrier, its direction or normal.
 fn vec_of(x: &[f64]) -> Vec3
     requires { ⌜ 6 ≤ length (now x) ⌝ }
-    ensures { λ r. ⌜ r ≡ vecAt (now (x .entry)) 3 ⌝ }
+    ensures { λ r. ⌜ r ≡ vecAt (now (x .entry)) FLOAT-CARRIER-DIRECTION ⌝ }
 {
     Vec3 {
         x: x[3],
