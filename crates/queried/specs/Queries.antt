@@ -45,24 +45,24 @@ distanceRefusal f p = 1 unless finitePoint p then planeRefusal f then offPlane (
 
 -- ---- the answers, made of the number and the value
 
-abbrev pub evaluated : ℕ → Point3 → Evaluated
-evaluated = answer Evaluations.At Evaluations.Refused
+abbrev pub evaluatedAnswer : ℕ → Point3 → Evaluated
+evaluatedAnswer = answer Evaluations.At Evaluations.Refused
 
-abbrev pub projected : ℕ → CurveProjection → Projected
-projected = answer Projections.At Projections.Refused
+abbrev pub projectedAnswer : ℕ → CurveProjection → Projected
+projectedAnswer = answer Projections.At Projections.Refused
 
-abbrev pub measured : ℕ → Float → Measured
-measured = answer Measures.Is Measures.Refused
+abbrev pub measuredAnswer : ℕ → Float → Measured
+measuredAnswer = answer Measures.Is Measures.Refused
 
 unfoldable pub evalCurve : Found → Float → Evaluated
-evalCurve f t = evaluated (evalRefusal f t) (linePoint (theLine f) t)
+evalCurve f t = evaluatedAnswer (evalRefusal f t) (linePoint (theLine f) t)
 
 -- the nearest parameter, and the point there
 abbrev pub projection : Line → Point3 → CurveProjection
 projection l p = record { param = nearest l p; point = linePoint l (nearest l p) }
 
 unfoldable pub projectToCurve : Found → Point3 → Projected
-projectToCurve f p = projected (projectRefusal f p) (projection (theLine f) p)
+projectToCurve f p = projectedAnswer (projectRefusal f p) (projection (theLine f) p)
 
 unfoldable pub distanceToSurface : Found → Point3 → Measured
-distanceToSurface f p = measured (distanceRefusal f p) (planeDistance (thePlane f) p)
+distanceToSurface f p = measuredAnswer (distanceRefusal f p) (planeDistance (thePlane f) p)

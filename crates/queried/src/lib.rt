@@ -10,7 +10,7 @@ use store::plane_of;
 use vectors::vector::Point3;
 ghost use mathlib.Core.Path.{_≡_};
 ghost use Rattle.geometry.specs.Geometry.{linePoint, planeDistance};
-ghost use Rattle.queried.specs.Queries.{onLine, nearLine, offPlane, projection, evaluated, projected, measured, evalCurve, projectToCurve, distanceToSurface};
+ghost use Rattle.queried.specs.Queries.{onLine, nearLine, offPlane, projection, evaluatedAnswer, projectedAnswer, measuredAnswer, evalCurve, projectToCurve, distanceToSurface};
 
 // A point of a curve, or the refusal's number.
 pub enum Evaluated {
@@ -37,7 +37,7 @@ pub enum Measured {
 }
 
 fn eval_line(line: Line, t: f64) -> Evaluated
-    ensures { λ r. ⌜ r ≡ evaluated (onLine line t) (linePoint line t) ⌝ }
+    ensures { λ r. ⌜ r ≡ evaluatedAnswer (onLine line t) (linePoint line t) ⌝ }
 {
     let point = line.eval(t);
     if point.is_finite() {
@@ -60,7 +60,7 @@ pub fn eval_curve(curve: Found, t: f64) -> Evaluated
 }
 
 fn project_to_line(line: Line, p: Point3) -> Projected
-    ensures { λ r. ⌜ r ≡ projected (nearLine line p) (projection line p) ⌝ }
+    ensures { λ r. ⌜ r ≡ projectedAnswer (nearLine line p) (projection line p) ⌝ }
 {
     let param = line.closest_param(p);
     if !vectors::vector::is_finite(param) {
@@ -87,7 +87,7 @@ pub fn project_to_curve(curve: Found, p: Point3) -> Projected
 }
 
 fn distance_to_plane(plane: Plane, p: Point3) -> Measured
-    ensures { λ r. ⌜ r ≡ measured (offPlane plane p) (planeDistance plane p) ⌝ }
+    ensures { λ r. ⌜ r ≡ measuredAnswer (offPlane plane p) (planeDistance plane p) ⌝ }
 {
     let distance = plane.distance(p);
     if vectors::vector::is_finite(distance) {
