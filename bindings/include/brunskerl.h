@@ -5,10 +5,10 @@
  * edges, vertices, curves, surfaces. Ids are slot numbers from 0; nothing is removed.
  *
  * What a caller owes. Each pointer is valid, aligned for its type and not null, also where its length is 0, and the length that follows it is the
- * true one. The parts of one call do not overlap, and nothing else writes to them, nor reads those that the call writes, while it runs. Floats are as a
- * program finds them at its start: rounded to the nearest, no flush to zero (which -ffast-math would set), no traps. The station keeps nothing
- * between calls, no address either, so that calls on other memory may run beside each other. A call takes less than 128 KB of stack, and no memory
- * but that and what is lent. From the C library the station needs memcpy and memset.
+ * true one. No part that a call writes to overlaps another part of that call. While it runs, nothing else writes to its parts, nor reads those that it
+ * writes to. Floats are as a program finds them at its start: rounded to the nearest, no flush to zero (which -ffast-math would set), no traps. The
+ * station keeps nothing between calls, no address either, so that calls on other memory may run beside each other. A call takes less than 128 KB of
+ * stack, and no memory but that and what is lent. From the C library the station needs memcpy and memset.
  *
  * The answers are those of the Rust that the station is ported from where coordinates are finite and at most 2^40 in size, the precision and
  * tolerances at least 2^-100, and each direction and normal is a vector divided by its length. That is the caller's part: the station takes a
@@ -16,8 +16,9 @@
  * end; from a plane whose normal is not, distances are as many times too long or too short. Divide by hypot(hypot(x, y), z), as the Rust
  * does; the Rust crate beside this header has makers of lines and planes from points.
  *
- * Each call returns 0 or the refusal's number, unless it says otherwise; a refusal leaves every table, list and slot as it was. It is the number
- * alone: no call says which record it was refused for.
+ * Each call returns 0 or the refusal's number, unless it says otherwise. A refusal is the number alone: no call says which record it was refused for. It
+ * leaves every table, list and slot as it was, but for a walk's `code`, which gets the number; marks are left zero, refused or not. The refusals
+ * stand beside the calls in the order of their tests, and the first that applies is given.
  *   1 bad argument   2 no such record   4 degenerate   6 not a solid   7 not carried, or a sign in doubt   8 no room   9 unreadable
  *
  * A record's fields, as `value` and `floats` hold them. An optional id is a tag, 0 for none or 1, and the id. A lookup gives the lengths
@@ -56,6 +57,7 @@ extern "C" {
 
 /* An empty model with a session precision: 9 where the capacities or lengths are wrong, 1 for a precision that is none. */
 uint32_t brunskerl_make(BRUNSKERL_MEMORY_OUT, double precision);
+/* The session precision: 9. */
 uint32_t brunskerl_precision(BRUNSKERL_MEMORY, double (*value)[1]);
 
 /* Lookups: 9, 2. */
@@ -113,12 +115,34 @@ size_t brunskerl_body_vertices(BRUNSKERL_MEMORY, size_t body, uint8_t *faces, si
 /* The ends of a fin in its direction, each a tag and an id: 9, 2. */
 uint32_t brunskerl_fin_vertices(BRUNSKERL_MEMORY, size_t fin, uint32_t (*ends)[4]);
 
-/* The box's two corners, and the volume. */
+/* The box's two corners, and the volume. Both: 9, 8 for short marks, 2 for a missing body, region or shell; for each face of the walk 2 where it is
+ * missing, 1 for no surface, 2 for a missing one, 7 for one that is no plane; 2 for a missing loop or fin; for each edge of the walk 2 where it is
+ * missing, 1 for no curve, 2 for a missing one, 7 for one that is no line.
+ * The box then: 2 for a missing vertex, 4 for no vertex, 4 for a coordinate that is not finite.
+ * The volume then: 6 for a body that is no solid; for each face that a shell of a solid region lists, in list order, 1 where that shell is neither its
+ * front nor its back or is both, 7 unless it has one loop, 4 for fewer than three fins, and for each fin 7 for a start that is none, 2 for a missing
+ * one; 4 where there is no such face. */
 uint32_t brunskerl_body_bounding_box(BRUNSKERL_MEMORY, size_t body, uint8_t *faces, size_t f, uint8_t *edges, size_t e, uint8_t *vertices, size_t v, double (*corners)[6]);
 uint32_t brunskerl_body_volume(BRUNSKERL_MEMORY, size_t body, uint8_t *faces, size_t f, double (*volume)[1]);
 
 /* The parameters of an edge's ends on its line, and the split at a fraction between them: that edge, the new edge, the new
- * vertex. The line's direction must have the length 1, or the new vertex can lie beyond the edge's end. */
+ * vertex. The line's direction must have the length 1, or the new vertex can lie beyond the edge's end.
+ * The parameters: 9, then tests 2 and 4 to 8 of these. The split: 9, then
+ *    1  1 for a fraction that is not finite, at most 0, or at least 1
+ *    2  2 for a missing edge
+ *    3  for each fin that the edge lists, 2 where it is missing, 7 where it has a pcurve
+ *    4  7 for an end that is none
+ *    5  1 for no curve, 2 for a missing one, 7 for one that is no line
+ *    6  2 for a missing start or end
+ *    7  4 unless direction . (end - start) is surely above 0
+ *    8  7 for a parameter that is not finite, or unless the end's is surely above the start's
+ *    9  4 for a split point that is not finite
+ *   10  4 unless it is surely farther than the precision from the start and from the end
+ *   11  for each fin that the edge lists, 1 where it was listed before, 1 where it names another edge, 2 for a missing loop, 1 unless the loop lists it
+ *       exactly once, 2 for a missing face, 1 for no surface, 2 for a missing one, 7 for one that is no plane; then at the parameters of start, end and
+ *       split, each in turn, 1 where the line is surely farther from the plane than the edge's tolerance, 7 where that is in doubt
+ *   12  1 where a shell lists the edge among its wire edges more than once
+ *   13  8 where a table or a list has no room for what the split adds */
 uint32_t brunskerl_edge_parameter_bounds(BRUNSKERL_MEMORY, size_t edge, double (*bounds)[2]);
 uint32_t brunskerl_split_line_edge(BRUNSKERL_MEMORY_OUT, size_t edge, double fraction, uint32_t (*ids)[3]);
 
@@ -130,7 +154,7 @@ uint32_t brunskerl_check_body(BRUNSKERL_MEMORY, size_t body, uint32_t geometry, 
 /* 1 where the body is fit to saw: geometry checked with three samples, no fault, nothing unchecked; and no more than that. It is 1 for an empty body
  * (a solid with its void region alone, whose volume is refused with 4), for one inside out (whose volume is negative), for a flat one (whose volume
  * is 0), for a wire or a sheet (whose volume is refused with 6), and for one whose own tolerances swallow its errors. Ask for the volume and the box
- * too. */
+ * too. Refusals: 9, 8 for short marks, 2. */
 uint32_t brunskerl_fit_to_saw(BRUNSKERL_MEMORY, size_t body, uint8_t *faces, size_t f, uint8_t *edges, size_t e, uint32_t (*fit)[1]);
 
 #ifdef __cplusplus
