@@ -83,6 +83,7 @@ impl Model {
         tell!(model, brunskerl_make(precision)).map(|()| model)
     }
 
+    /// The session precision.
     pub fn precision(&self) -> Result<f64, Refusal> {
         let mut value = [0.0];
         Refusal::of(ask!(self, brunskerl_precision(&mut value))).map(|()| value[0])
@@ -374,7 +375,7 @@ impl Model {
         })
     }
 
-    /// The two ends of a fin, in its direction.
+    /// The two ends of a fin, in its direction. [`Refusal::NotFound`] where it or its edge is missing.
     pub fn fin_vertices(&self, fin: u32) -> Result<[Option<u32>; 2], Refusal> {
         let mut ends = [0; 4];
         Refusal::of(ask!(self, brunskerl_fin_vertices(fin as usize, &mut ends)))?;
@@ -390,6 +391,10 @@ impl Model {
     }
 
     /// The two corners of the body's box.
+    ///
+    /// [`Refusal::NotFound`] for a missing record, [`Refusal::BadArgument`] for a face with no surface or an edge with no curve,
+    /// [`Refusal::Unresolved`] for a surface that is no plane or a curve that is no line, [`Refusal::Degenerate`] for a body with no vertex
+    /// or a coordinate that is not finite.
     pub fn body_bounding_box(&self, body: u32) -> Result<[[f64; 3]; 2], Refusal> {
         let [mut f, mut e, mut v] = self.marks();
         let mut corners = [0.0; 6];
@@ -410,6 +415,12 @@ impl Model {
         Ok([[a, b, c], [d, e, f]])
     }
 
+    /// The volume of a solid, negative where it is inside out.
+    ///
+    /// Refused as the box is for what is missing, no surface or curve, and what is no plane or line; then [`Refusal::NotSolid`] for another body, and of
+    /// the faces in its solid regions [`Refusal::BadArgument`] where not exactly one side is the shell that lists it, [`Refusal::Unresolved`] unless it
+    /// has one loop, [`Refusal::Degenerate`] for fewer than three fins, [`Refusal::Unresolved`] for a fin that starts at no vertex;
+    /// [`Refusal::Degenerate`] for no such face.
     pub fn body_volume(&self, body: u32) -> Result<f64, Refusal> {
         let [mut f, ..] = self.marks();
         let mut volume = [0.0];
@@ -421,6 +432,9 @@ impl Model {
     }
 
     /// The parameters of the edge's start and end on its line.
+    ///
+    /// [`Refusal::NotFound`] for a missing record, [`Refusal::BadArgument`] for no curve, [`Refusal::Unresolved`] for an end that is none, a curve that is
+    /// no line, or parameters that are not surely finite and rising, [`Refusal::Degenerate`] where the ends do not surely follow the line's direction.
     pub fn edge_parameter_bounds(&self, edge: u32) -> Result<[f64; 2], Refusal> {
         let mut bounds = [0.0; 2];
         Refusal::of(ask!(self, brunskerl_edge_parameter_bounds(edge as usize, &mut bounds)))?;
@@ -431,6 +445,11 @@ impl Model {
 
     /// Splits an edge at a fraction of its length, whole or not at all. A refusal is its number alone.
     ///
+    /// Refused as [`Model::edge_parameter_bounds`] is, and with [`Refusal::BadArgument`] for a fraction that is not above 0 and below 1, for lists
+    /// about the edge that do not fit together, and for a face with no surface or whose plane the edge leaves; [`Refusal::Unresolved`] for a fin with a
+    /// pcurve, a surface that is no plane, or a distance to it in doubt; [`Refusal::Degenerate`] for a split point that is not finite, or not surely
+    /// farther than the precision from both ends; [`Refusal::NoRoom`]. The header has the tests in their order.
+    ///
     /// The edge's line must have a direction of length 1 ([`Carrier`]); else the new vertex can lie beyond the edge's end.
     pub fn split_line_edge(&mut self, edge: u32, fraction: f64) -> Result<Split, Refusal> {
         let mut ids = [0; 3];
@@ -440,6 +459,7 @@ impl Model {
     }
 
     /// Checks a body: its topology, and its geometry where a number of samples to an edge is given, at most 255.
+    /// [`Refusal::NotFound`] for a missing body.
     pub fn check_body(&self, body: u32, samples: Option<u8>) -> Result<Report, Refusal> {
         let [mut f, mut e, _] = self.marks();
         let (geometry, samples) = (samples.is_some().into(), samples.unwrap_or(0).into());
@@ -474,7 +494,7 @@ impl Model {
     ///
     /// It is true of an empty body (a solid with its void region alone, whose volume is refused), of one inside out (whose volume is
     /// negative), of a flat one (whose volume is 0), of a wire or a sheet (whose volume is refused), and of one whose own tolerances swallow its
-    /// errors. Ask for the volume and the box too.
+    /// errors. Ask for the volume and the box too. [`Refusal::NotFound`] for a missing body.
     pub fn fit_to_saw(&self, body: u32) -> Result<bool, Refusal> {
         let [mut f, mut e, _] = self.marks();
         let mut fit = [0];
