@@ -1,6 +1,6 @@
 //! The rows of 01's 'Trial stone', through the proved static library.
 
-use brunskerl::{BodyKind, Carrier, Entity, Fault, LARGEST, List, Model, Refusal, Region};
+use brunskerl::{BodyKind, Carrier, Entity, Fault, LARGEST, List, Model, Refusal, Region, Sense};
 
 /// The trial stone and its body. Edge 0 is A.
 fn stone() -> (Model, u32) {
@@ -99,6 +99,32 @@ fn contains() {
     assert_eq!(model.contains(Entity::Vertex(split.vertex)), Ok(true));
     assert_eq!(kinds.map(|kind| count(&model, kind)), [1, 2, 2, 6, 6, 26, 13, 9]);
     assert_eq!(model.contains(Entity::Body(body)), Ok(true));
+}
+
+/// Edge A is used by a fin in its direction and by one against it.
+#[test]
+fn fin_vertices() {
+    let (mut model, _) = stone();
+    let fins = model.list(List::FinsOfEdge, 0).unwrap();
+    let used = |sense| fins.iter().copied().find(|fin| model.fin(*fin).unwrap().sense == sense).unwrap();
+    let (along, against) = (used(Sense::Positive), used(Sense::Negative));
+    assert_eq!(model.fin_vertices(along), Ok([Some(0), Some(1)]));
+    assert_eq!(model.fin_vertices(against), Ok([Some(1), Some(0)]));
+    assert_eq!(model.fin_vertices(24), Err(Refusal::NotFound));
+    assert_eq!(model.fin_vertices(u32::MAX), Err(Refusal::NotFound));
+
+    // An end that is none, and one that names no vertex, are told as they stand.
+    let mut edge = model.edge(0).unwrap();
+    (edge.start, edge.end) = (None, Some(8));
+    model.set_edge(0, edge).unwrap();
+    assert_eq!(model.fin_vertices(along), Ok([None, Some(8)]));
+    assert_eq!(model.fin_vertices(against), Ok([Some(8), None]));
+
+    // The fin is there, and its edge is not.
+    let mut fin = model.fin(along).unwrap();
+    fin.edge = 12;
+    model.set_fin(along, fin).unwrap();
+    assert_eq!(model.fin_vertices(along), Err(Refusal::NotFound));
 }
 
 /// Fit to saw is no fault and nothing unchecked: an empty body is, and one inside out, a flat one, one that is no solid, and one whose
