@@ -29,14 +29,14 @@ module _ {B A : Type 0} {is : B → A} {refused : ℕ → A} (cases : Cases is r
     value-crosses b e h =
         record {
           of-value = λ v f. (refl, h ∙ ap value (cases .values b v (sym e ∙ f)));
-          of-refusal = λ n f. let z : _≡_ {A = ℕ} 0 1 = cases .apart b n (sym e ∙ f) in absurd (omega arith)
+          of-refusal = λ n f. let z : _≡_ {A = ℕ} 0 1 = cases .apart b n (sym e ∙ f) in absurd (omega arith);
         }
 
     pub refusal-crosses : (n : ℕ) → a ≡ refused n → Crosses is refused value a n old old
     refusal-crosses n e =
         record {
           of-value = λ v f. let z : _≡_ {A = ℕ} 0 1 = cases .apart v n (sym f ∙ e) in absurd (omega arith);
-          of-refusal = λ m f. (cases .numbers n m (sym e ∙ f), refl)
+          of-refusal = λ m f. (cases .numbers n m (sym e ∙ f), refl);
         }
 
 -- an answer that is made of a number and a value (01, "a definition gives this paper's number and values for each case of the enum": `answer`), crossed to C: r is the number,
