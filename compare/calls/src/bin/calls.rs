@@ -377,6 +377,7 @@ fn main() -> ExitCode {
     let numbers: Result<Vec<u64>, _> = numbers.iter().map(|a| a.parse()).collect();
     match (mode, numbers.as_deref()) {
         ("wrong", Ok([])) => wrongs(1000, 1),
+        ("wrong", Ok([count])) => wrongs(*count, 1),
         ("wrong", Ok([count, seed])) => wrongs(*count, *seed),
         ("asked", Ok([])) => questions(200_000, 1),
         ("asked", Ok([count])) => questions(*count, 1),
