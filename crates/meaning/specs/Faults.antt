@@ -102,13 +102,9 @@ classOr (some c) asked = c
 unfoldable pub faultOn : ℕ → Asked → Finding
 faultOn n a = found (record { kind = reasonRow n .kind; class = classOr (reasonRow n .class) (a .class); id = a .id; reason = n })
 
--- reason n, at the entity i of the class that its row has (25 and 26 have none, and are put on what was asked about)
-abbrev rowClass : Option Class → Class
-rowClass none = ofBody
-rowClass (some c) = c
-
+-- reason n, at the entity i of the class that its row has; not for 25 and 26, whose rows have none
 abbrev pub fault : ℕ → ℕ → Finding
-fault n i = faultOn n (about (rowClass (reasonRow n .class)) i)
+fault n i = faultOn n (about (classOr (reasonRow n .class) ofBody) i)
 
 -- a finding where the test holds
 abbrev pub onlyIf : Bool → Finding → List Finding
@@ -174,7 +170,7 @@ sampleTests m n e c s =
     []
 
 -- "so does (added) a fin whose edge has neither end and whose curve or surface is 'other'". To this rule a curve that is there and no line is "other",
--- and so is a surface that is there and no plane: "A doubtful measurement counts as unchecked, never as sound"
+-- and so is a surface that is there and no plane, since a measurement in doubt counts as unchecked, never as sound (docs/DECISIONS.md, row 11)
 abbrev pub noLine : Found → Bool
 noLine Missing = false
 noLine (There (Carriers.Line l)) = false
