@@ -9,6 +9,6 @@ fn main() {
     println!("cargo::rustc-link-search=native={}", libraries.display());
     println!(
         "cargo::rerun-if-changed={}",
-        libraries.join("libprobe.a").display()
+        libraries.join("libreplay_probe.a").display()
     );
 }

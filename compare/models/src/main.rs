@@ -22,7 +22,7 @@ use mathlib.Core.Path.{_≡_, refl}
 use mathlib.Core.Bool.{true, false}
 use mathlib.Core.List.{List, [], _∷_}
 use mathlib.Core.Option.{none, some}
-use Rattle.geometry.specs.declared.tolerance.Tolerance.the-variants.{Session}
+use Rattle.geom_lines_planes.specs.declared.tolerance.Tolerance.the-variants.{Session}
 use Rattle.meaning.specs.Model.{Model, acorn, wire, sheet, solid, general, positive, negative}
 use Rattle.meaning.specs.Computing.{computing}
 use Rattle.meaning.specs.Shown.{own, at, bodyR, regionR, shellR, faceR, loopR, finR, edgeR, vertexR, lineR, planeR, otherR, modelR, tables, faces, edges, vertices, ends, box, volume, report, bounds, split, behind}

@@ -4,10 +4,10 @@ use mathlib.Core.Bool.{false}
 use mathlib.Core.List.{List, [], _∷_}
 use mathlib.Core.Option.{Option, none, some}
 use lib.Ieee.{Float, neg}
-use Rattle.vectors.specs.declared.vector.Point3.{Point3}
-use Rattle.geometry.specs.declared.tolerance.Tolerance.the-variants.{Own, Session}
-use Rattle.store.specs.declared.Carrier.{Carrier}
-use Rattle.store.specs.declared.Carrier.the-variants as Carriers
+use Rattle.float_vectors.specs.declared.vector.Point3.{Point3}
+use Rattle.geom_lines_planes.specs.declared.tolerance.Tolerance.the-variants.{Own, Session}
+use Rattle.geom_carriers.specs.declared.Carrier.{Carrier}
+use Rattle.geom_carriers.specs.declared.Carrier.the-variants as Carriers
 use Rattle.meaning.specs.Floats.{_/ᶠ_, floatOf}
 use Rattle.meaning.specs.Model.{sheet, solid, positive, negative, Body, Region, Shell, Face, Loop, Fin, Edge, Vertex, Table, Model, Limits}
 use Rattle.meaning.specs.Edits.{edited}

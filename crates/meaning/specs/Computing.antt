@@ -1,13 +1,13 @@
 -- For evaluation: a line `unfolding computing` opens every definition of this crate and of those below, and the float operations of lib.Ieee.
 use Prim.Native.Nat.{ℕ}
 use lib.Ieee.{toBits, ofBits, add, sub, mul, div, neg, round, ofInt, isNan, lt, le, eq}
-use Rattle.steps.specs.Next.{nextUp, nextDown}
-use Rattle.numbers.specs.Ops.{pointI, addI, subI, mulI, sqrI, signI}
-use Rattle.vectors.specs.Space.{finitePoint, minus, along, scaledV, dotV, crossV}
-use Rattle.ranges.specs.Ranges.{differenceI, pointI3, vectorI, dotI}
-use Rattle.geometry.specs.Geometry.{linePoint, nearest, sizeF, planeDistance}
-use Rattle.store.specs.Queries.{theLine, lineRefusal, thePlane, planeRefusal}
-use Rattle.signs.specs.Signs.{increasingS, spanS, apartS, offPlaneS, offCurveS}
+use Rattle.float_order.specs.Next.{nextUp, nextDown}
+use Rattle.interval_arithmetic.specs.Ops.{pointI, addI, subI, mulI, sqrI, signI}
+use Rattle.float_vectors.specs.Space.{finitePoint, minus, along, scaledV, dotV, crossV}
+use Rattle.interval_vectors.specs.Vectors.{differenceI, pointI3, vectorI, dotI}
+use Rattle.geom_lines_planes.specs.Geometry.{linePoint, nearest, sizeF, planeDistance}
+use Rattle.geom_carriers.specs.Queries.{theLine, lineRefusal, thePlane, planeRefusal}
+use Rattle.geom_signs.specs.Signs.{increasingS, spanS, apartS, offPlaneS, offCurveS}
 use Rattle.meaning.specs.Lists.{run, allBelow, all, every, member, count, countIf, place, joined, meet, meets}
 use Rattle.meaning.specs.Model.{extended, changed, carrierAt}
 use Rattle.meaning.specs.Refuse.{firstRefusal, firstOf}

@@ -6,10 +6,10 @@ use mathlib.Core.List.{List, [], _∷_, _++_}
 use lib.Dec.{eqb, ltb}
 use lib.Ieee.{Float, lt, le}
 use lib.Ieee.Scale.{finite}
-use Rattle.numbers.specs.Ops.{zeroF}
-use Rattle.geometry.specs.declared.tolerance.Tolerance.{Tolerance}
-use Rattle.geometry.specs.declared.tolerance.Tolerance.the-variants.{Own, Session}
-use Rattle.geometry.specs.Refuse.{_unless_, _then_}
+use Rattle.interval_arithmetic.specs.Ops.{zeroF}
+use Rattle.geom_lines_planes.specs.declared.tolerance.Tolerance.{Tolerance}
+use Rattle.geom_lines_planes.specs.declared.tolerance.Tolerance.the-variants.{Own, Session}
+use Rattle.geom_lines_planes.specs.Refuse.{_unless_, _then_}
 use Rattle.meaning.specs.Model.{Table, extended, changed}
 
 -- 1: "an inserted tolerance or precision not finite or negative, or a zero precision"

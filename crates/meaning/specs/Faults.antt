@@ -7,18 +7,18 @@ use mathlib.Core.Option.{Option, none, some}
 use lib.Dec.{eqb, leb}
 use lib.ListN.{length, getD, take}
 use lib.Ieee.{Float, lt}
-use Rattle.numbers.specs.declared.Sign.{Sign}
-use Rattle.numbers.specs.declared.Sign.the-variants.{Negative, Zero, Positive, Unresolved}
-use Rattle.vectors.specs.declared.vector.Point3.{Point3}
-use Rattle.vectors.specs.Space.{_+ᶠ_, _-ᶠ_, _*ᶠ_}
-use Rattle.geometry.specs.Refuse.{_unless_, _then_}
-use Rattle.geometry.specs.Geometry.{linePoint, nearest, planeDistance, effective}
-use Rattle.store.specs.declared.Carrier.the-variants as Carriers
-use Rattle.store.specs.declared.Found.{Found}
-use Rattle.store.specs.declared.Found.the-variants.{There, Missing}
-use Rattle.store.specs.Queries.{theLine, thePlane}
-use Rattle.queried.specs.Queries.{evalRefusal, projectRefusal, distanceRefusal}
-use Rattle.signs.specs.Signs.{offCurveS}
+use Rattle.interval_arithmetic.specs.declared.Sign.{Sign}
+use Rattle.interval_arithmetic.specs.declared.Sign.the-variants.{Negative, Zero, Positive, Unresolved}
+use Rattle.float_vectors.specs.declared.vector.Point3.{Point3}
+use Rattle.float_vectors.specs.Space.{_+ᶠ_, _-ᶠ_, _*ᶠ_}
+use Rattle.geom_lines_planes.specs.Refuse.{_unless_, _then_}
+use Rattle.geom_lines_planes.specs.Geometry.{linePoint, nearest, planeDistance, effective}
+use Rattle.geom_carriers.specs.declared.Carrier.the-variants as Carriers
+use Rattle.geom_carriers.specs.declared.Found.{Found}
+use Rattle.geom_carriers.specs.declared.Found.the-variants.{There, Missing}
+use Rattle.geom_carriers.specs.Queries.{theLine, thePlane}
+use Rattle.geom_queries.specs.Queries.{evalRefusal, projectRefusal, distanceRefusal}
+use Rattle.geom_signs.specs.Signs.{offCurveS}
 use Rattle.meaning.specs.Lists.{run, member, joined, rotated, the, isSome, is, same}
 use Rattle.meaning.specs.Floats.{_/ᶠ_, floatOf}
 use Rattle.meaning.specs.Model.{Model, Sense, positive, negative, has, body, region, shell, face, loop, fin, edge, vertex, pointOf, curve, surface}

@@ -3,8 +3,8 @@ use Prim.Native.Nat.{ℕ}
 use mathlib.Core.Bool.{cond}
 use lib.IntN.{pos}
 use lib.Ieee.{Float, binary64, div, lt, ofInt}
-use Rattle.vectors.specs.declared.vector.Point3.{Point3}
-use Rattle.vectors.specs.declared.vector.Vec3.{Vec3}
+use Rattle.float_vectors.specs.declared.vector.Point3.{Point3}
+use Rattle.float_vectors.specs.declared.vector.Vec3.{Vec3}
 
 infixl 70 _/ᶠ_
 abbrev pub _/ᶠ_ : Float → Float → Float

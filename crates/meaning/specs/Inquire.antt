@@ -6,11 +6,11 @@ use mathlib.Core.Option.{Option}
 use lib.Dec.{eqb, ltb}
 use lib.ListN.{length, getD}
 use lib.Ieee.{Float}
-use Rattle.numbers.specs.Ops.{zeroF}
-use Rattle.vectors.specs.declared.vector.Point3.{Point3}
-use Rattle.vectors.specs.Space.{_+ᶠ_, finitePoint, minus, dotV, crossV}
-use Rattle.geometry.specs.Refuse.{_unless_, _then_}
-use Rattle.store.specs.Queries.{lineRefusal, planeRefusal}
+use Rattle.interval_arithmetic.specs.Ops.{zeroF}
+use Rattle.float_vectors.specs.declared.vector.Point3.{Point3}
+use Rattle.float_vectors.specs.Space.{_+ᶠ_, finitePoint, minus, dotV, crossV}
+use Rattle.geom_lines_planes.specs.Refuse.{_unless_, _then_}
+use Rattle.geom_carriers.specs.Queries.{lineRefusal, planeRefusal}
 use Rattle.meaning.specs.Lists.{all, joined, the, isSome, is}
 use Rattle.meaning.specs.Floats.{_/ᶠ_, floatOf, lesser, greater, toVec}
 use Rattle.meaning.specs.Model.{Model, BodyKind, acorn, wire, sheet, solid, general, has, body, region, shell, face, loop, edge, pointOf, curve, surface}

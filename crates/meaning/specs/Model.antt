@@ -6,11 +6,11 @@ use mathlib.Core.List.{List}
 use mathlib.Core.Option.{Option}
 use lib.Dec.{ltb}
 use lib.Ieee.{Float}
-use Rattle.vectors.specs.declared.vector.Point3.{Point3}
-use Rattle.geometry.specs.declared.tolerance.Tolerance.{Tolerance}
-use Rattle.store.specs.declared.Carrier.{Carrier}
-use Rattle.store.specs.declared.Found.{Found}
-use Rattle.store.specs.declared.Found.the-variants.{There, Missing}
+use Rattle.float_vectors.specs.declared.vector.Point3.{Point3}
+use Rattle.geom_lines_planes.specs.declared.tolerance.Tolerance.{Tolerance}
+use Rattle.geom_carriers.specs.declared.Carrier.{Carrier}
+use Rattle.geom_carriers.specs.declared.Found.{Found}
+use Rattle.geom_carriers.specs.declared.Found.the-variants.{There, Missing}
 
 pub data BodyKind : Type 0 where
   acorn wire sheet solid general : BodyKind

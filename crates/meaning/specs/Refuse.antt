@@ -3,7 +3,7 @@
 use Prim.Native.Nat.{ℕ}
 use mathlib.Core.Bool.{Bool, true, false}
 use mathlib.Core.List.{List, [], _∷_}
-use Rattle.geometry.specs.Refuse.{_unless_, _then_, answer}
+use Rattle.geom_lines_planes.specs.Refuse.{_unless_, _then_, answer}
 use Rattle.meaning.specs.Model.{Table, has}
 
 pub data Answer (A : Type 0) : Type 0 where

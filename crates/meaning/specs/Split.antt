@@ -7,17 +7,17 @@ use lib.Dec.{eqb, leb}
 use lib.ListN.{length, getD}
 use lib.Ieee.{Float, lt}
 use lib.Ieee.Scale.{finite}
-use Rattle.numbers.specs.declared.Sign.{Sign}
-use Rattle.numbers.specs.declared.Sign.the-variants.{Negative, Zero, Positive, Unresolved}
-use Rattle.numbers.specs.Ops.{zeroF}
-use Rattle.vectors.specs.declared.vector.Point3.{Point3}
-use Rattle.vectors.specs.Space.{_+ᶠ_, _-ᶠ_, _*ᶠ_, finitePoint}
-use Rattle.geometry.specs.declared.curve.Line.{Line}
-use Rattle.geometry.specs.declared.surface.Plane.{Plane}
-use Rattle.geometry.specs.Refuse.{_unless_, _then_}
-use Rattle.geometry.specs.Geometry.{linePoint, nearest, effective}
-use Rattle.store.specs.Queries.{lineRefusal, planeRefusal, theLine, thePlane}
-use Rattle.signs.specs.Signs.{increasingS, spanS, apartS, offPlaneS}
+use Rattle.interval_arithmetic.specs.declared.Sign.{Sign}
+use Rattle.interval_arithmetic.specs.declared.Sign.the-variants.{Negative, Zero, Positive, Unresolved}
+use Rattle.interval_arithmetic.specs.Ops.{zeroF}
+use Rattle.float_vectors.specs.declared.vector.Point3.{Point3}
+use Rattle.float_vectors.specs.Space.{_+ᶠ_, _-ᶠ_, _*ᶠ_, finitePoint}
+use Rattle.geom_lines_planes.specs.declared.curve.Line.{Line}
+use Rattle.geom_lines_planes.specs.declared.surface.Plane.{Plane}
+use Rattle.geom_lines_planes.specs.Refuse.{_unless_, _then_}
+use Rattle.geom_lines_planes.specs.Geometry.{linePoint, nearest, effective}
+use Rattle.geom_carriers.specs.Queries.{lineRefusal, planeRefusal, theLine, thePlane}
+use Rattle.geom_signs.specs.Signs.{increasingS, spanS, apartS, offPlaneS}
 use Rattle.meaning.specs.Lists.{run, all, allBelow, member, count, countIf, place, joined, the, isSome}
 use Rattle.meaning.specs.Floats.{floatOf}
 use Rattle.meaning.specs.Model.{Model, Limits, Sense, positive, negative, Shell, Loop, Fin, Edge, has, extended, changed, shell, face, loop, fin, edge, pointOf, curve, surface}

@@ -5,11 +5,11 @@ use mathlib.Core.List.{List, [], _∷_}
 use mathlib.Core.Option.{some}
 use lib.ListN.{length, getD}
 use lib.Ieee.{Float, binary64, round, neg}
-use Rattle.vectors.specs.declared.vector.Point3.{Point3}
-use Rattle.vectors.specs.declared.vector.Vec3.{Vec3}
-use Rattle.geometry.specs.declared.tolerance.Tolerance.the-variants.{Session}
-use Rattle.store.specs.declared.Carrier.{Carrier}
-use Rattle.store.specs.declared.Carrier.the-variants as Carriers
+use Rattle.float_vectors.specs.declared.vector.Point3.{Point3}
+use Rattle.float_vectors.specs.declared.vector.Vec3.{Vec3}
+use Rattle.geom_lines_planes.specs.declared.tolerance.Tolerance.the-variants.{Session}
+use Rattle.geom_carriers.specs.declared.Carrier.{Carrier}
+use Rattle.geom_carriers.specs.declared.Carrier.the-variants as Carriers
 use Rattle.meaning.specs.Floats.{floatOf}
 use Rattle.meaning.specs.Model.{solid, Sense, positive, negative, Region, Shell, Face, Loop, Fin, Edge, Vertex, Table, Model}
 

@@ -1,12 +1,12 @@
 -- Evaluations that tell the definitions from wrong ones: each edit of must-fail/ makes one of them false. Assumes nothing.
--- Each asks the smallest model and the innermost definition that tell, since every edit evaluates them again; the crate `evaluated` has the whole tables.
+-- Each asks the smallest model and the innermost definition that tell, since every edit evaluates them again; the crate `meaning_examples` has the whole tables.
 use Prim.Native.Nat.{ℕ}
 use mathlib.Core.Path.{_≡_, refl}
 use mathlib.Core.Bool.{true, false}
 use mathlib.Core.List.{List, [], _∷_, map}
 use mathlib.Core.Option.{none, some}
 use lib.Ieee.{Float, binary64, neg, toBits}
-use Rattle.geometry.specs.declared.tolerance.Tolerance.the-variants.{Own}
+use Rattle.geom_lines_planes.specs.declared.tolerance.Tolerance.the-variants.{Own}
 use Rattle.meaning.specs.Floats.{_/ᶠ_, floatOf}
 use Rattle.meaning.specs.Model.{Model, positive}
 use Rattle.meaning.specs.Refuse.{given}

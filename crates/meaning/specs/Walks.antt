@@ -4,7 +4,7 @@ use Prim.Native.Nat.{ℕ}
 use mathlib.Core.Bool.{Bool, _&&_}
 use mathlib.Core.List.{List, _++_, map}
 use mathlib.Core.Option.{Option}
-use Rattle.geometry.specs.Refuse.{_unless_, _then_}
+use Rattle.geom_lines_planes.specs.Refuse.{_unless_, _then_}
 use Rattle.meaning.specs.Lists.{all, joined, firsts, listed}
 use Rattle.meaning.specs.Model.{Model, Edge, Sense, positive, negative, has, body, region, shell, face, loop, fin, edge}
 use Rattle.meaning.specs.Refuse.{Answer, answered}

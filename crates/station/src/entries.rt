@@ -1,14 +1,14 @@
 // The entries of the eight lists: asked, put, appended and struck.
-use listed::append_entry;
-use listed::put_entry;
-use listed::strike_entry;
+use edit_lists::append_entry;
+use edit_lists::put_entry;
+use edit_lists::strike_entry;
 ghost use mathlib.Core.Path.{_≡_};
 ghost use mathlib.Core.List.{[], _∷_};
-ghost use Rattle.model.specs.Layout.{word};
-ghost use Rattle.model.specs.Entries.{listOf, entryRefusal};
-ghost use Rattle.frame.specs.Put.{unlessRefused};
-ghost use Rattle.listed.specs.Answers.{putEntryWords, appendNumber, appendEntryWords, strikeEntryWords};
-ghost use Rattle.lent.specs.Lent.{was, lent};
+ghost use Rattle.memory_layout.specs.Layout.{word};
+ghost use Rattle.memory_layout.specs.Entries.{listOf, entryRefusal};
+ghost use Rattle.memory_writes.specs.Put.{unlessRefused};
+ghost use Rattle.edit_lists.specs.Answers.{putEntryWords, appendNumber, appendEntryWords, strikeEntryWords};
+ghost use Rattle.c_lent.specs.Lent.{was, lent};
 
 // The entry at a place of list j of record i.
 #[no_mangle]
@@ -24,7 +24,7 @@ pub extern "C" fn brunskerl_list_entry(
     ensures answer { λ r. ⌜ r ≡ lent entryRefusal room words reals j i place ⌝ }
     ensures slots { λ r. ⌜ now (value .exit) ≡ unlessRefused r (word (listOf (was room) (was words) j i) place ∷ []) (was value) ⌝ }
 {
-    queries::list_entry(room, words, reals, j, i, place, value)
+    c_queries::list_entry(room, words, reals, j, i, place, value)
 }
 
 // Another id at a place of list j of record i.

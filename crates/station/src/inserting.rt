@@ -2,12 +2,12 @@
 ghost use mathlib.Core.Path.{_≡_};
 ghost use mathlib.Core.Bool.{true};
 ghost use mathlib.Core.List.{[], _∷_};
-ghost use Rattle.model.specs.Names.{BODIES, REGIONS, SHELLS, FACES, LOOPS, FINS, EDGES, VERTICES, CURVES, SURFACES};
-ghost use Rattle.model.specs.Layout.{word};
-ghost use Rattle.frame.specs.Put.{unlessRefused};
-ghost use Rattle.edits.specs.Answers.{insertNumber, insertWords, insertReals};
-ghost use Rattle.lent.specs.Lent.{was, lent};
-ghost use Rattle.crossings.specs.Given.{bodyKnown, regionKnown, faceKnown, finKnown, carrierKnown, edgeGood, vertexGood, bodyGiven, regionGiven, shellGiven, faceGiven, loopGiven, finGiven, edgeGiven, vertexGiven, carrierGiven, edgeOwn, vertexOwn, carrierOwn};
+ghost use Rattle.memory_layout.specs.Names.{BODIES, REGIONS, SHELLS, FACES, LOOPS, FINS, EDGES, VERTICES, CURVES, SURFACES};
+ghost use Rattle.memory_layout.specs.Layout.{word};
+ghost use Rattle.memory_writes.specs.Put.{unlessRefused};
+ghost use Rattle.edit_core.specs.Answers.{insertNumber, insertWords, insertReals};
+ghost use Rattle.c_lent.specs.Lent.{was, lent};
+ghost use Rattle.c_values.specs.Given.{bodyKnown, regionKnown, faceKnown, finKnown, carrierKnown, edgeGood, vertexGood, bodyGiven, regionGiven, shellGiven, faceGiven, loopGiven, finGiven, edgeGiven, vertexGiven, carrierGiven, edgeOwn, vertexOwn, carrierOwn};
 
 #[no_mangle]
 pub extern "C" fn brunskerl_insert_body(
@@ -22,7 +22,7 @@ pub extern "C" fn brunskerl_insert_body(
     ensures tables { λ _. ⌜ now (words .exit) ≡ lent insertWords room words reals (bodyKnown (was value)) BODIES (bodyGiven (was value)) ⌝ }
     ensures floats { λ _. ⌜ now (reals .exit) ≡ lent insertReals room words reals (bodyKnown (was value)) BODIES [] ⌝ }
 {
-    additions::body(room, words, reals, value, id)
+    c_inserts::body(room, words, reals, value, id)
 }
 
 #[no_mangle]
@@ -38,7 +38,7 @@ pub extern "C" fn brunskerl_insert_region(
     ensures tables { λ _. ⌜ now (words .exit) ≡ lent insertWords room words reals (regionKnown (was value)) REGIONS (regionGiven (was value)) ⌝ }
     ensures floats { λ _. ⌜ now (reals .exit) ≡ lent insertReals room words reals (regionKnown (was value)) REGIONS [] ⌝ }
 {
-    additions::region(room, words, reals, value, id)
+    c_inserts::region(room, words, reals, value, id)
 }
 
 #[no_mangle]
@@ -54,7 +54,7 @@ pub extern "C" fn brunskerl_insert_shell(
     ensures tables { λ _. ⌜ now (words .exit) ≡ lent insertWords room words reals true SHELLS (shellGiven (was value)) ⌝ }
     ensures floats { λ _. ⌜ now (reals .exit) ≡ lent insertReals room words reals true SHELLS [] ⌝ }
 {
-    additions::shell(room, words, reals, value, id)
+    c_inserts::shell(room, words, reals, value, id)
 }
 
 #[no_mangle]
@@ -70,7 +70,7 @@ pub extern "C" fn brunskerl_insert_face(
     ensures tables { λ _. ⌜ now (words .exit) ≡ lent insertWords room words reals (faceKnown (was value)) FACES (faceGiven (was value)) ⌝ }
     ensures floats { λ _. ⌜ now (reals .exit) ≡ lent insertReals room words reals (faceKnown (was value)) FACES [] ⌝ }
 {
-    additions::face(room, words, reals, value, id)
+    c_inserts::face(room, words, reals, value, id)
 }
 
 #[no_mangle]
@@ -86,7 +86,7 @@ pub extern "C" fn brunskerl_insert_loop(
     ensures tables { λ _. ⌜ now (words .exit) ≡ lent insertWords room words reals true LOOPS (loopGiven (was value)) ⌝ }
     ensures floats { λ _. ⌜ now (reals .exit) ≡ lent insertReals room words reals true LOOPS [] ⌝ }
 {
-    additions::loop_(room, words, reals, value, id)
+    c_inserts::loop_(room, words, reals, value, id)
 }
 
 #[no_mangle]
@@ -102,7 +102,7 @@ pub extern "C" fn brunskerl_insert_fin(
     ensures tables { λ _. ⌜ now (words .exit) ≡ lent insertWords room words reals (finKnown (was value)) FINS (finGiven (was value)) ⌝ }
     ensures floats { λ _. ⌜ now (reals .exit) ≡ lent insertReals room words reals (finKnown (was value)) FINS [] ⌝ }
 {
-    additions::fin(room, words, reals, value, id)
+    c_inserts::fin(room, words, reals, value, id)
 }
 
 #[no_mangle]
@@ -119,7 +119,7 @@ pub extern "C" fn brunskerl_insert_edge(
     ensures tables { λ _. ⌜ now (words .exit) ≡ lent insertWords room words reals (edgeGood (was value) (was floats)) EDGES (edgeGiven (was value) (was floats)) ⌝ }
     ensures floats { λ _. ⌜ now (reals .exit) ≡ lent insertReals room words reals (edgeGood (was value) (was floats)) EDGES (edgeOwn (was value) (was floats)) ⌝ }
 {
-    bearers::edge(room, words, reals, value, floats, id)
+    c_inserts::edge(room, words, reals, value, floats, id)
 }
 
 #[no_mangle]
@@ -136,7 +136,7 @@ pub extern "C" fn brunskerl_insert_vertex(
     ensures tables { λ _. ⌜ now (words .exit) ≡ lent insertWords room words reals (vertexGood (was value) (was floats)) VERTICES (vertexGiven (was value) (was floats)) ⌝ }
     ensures floats { λ _. ⌜ now (reals .exit) ≡ lent insertReals room words reals (vertexGood (was value) (was floats)) VERTICES (vertexOwn (was value) (was floats)) ⌝ }
 {
-    bearers::vertex(room, words, reals, value, floats, id)
+    c_inserts::vertex(room, words, reals, value, floats, id)
 }
 
 #[no_mangle]
@@ -153,7 +153,7 @@ pub extern "C" fn brunskerl_insert_curve(
     ensures tables { λ _. ⌜ now (words .exit) ≡ lent insertWords room words reals (carrierKnown (was value)) CURVES (carrierGiven (was value) (was floats)) ⌝ }
     ensures floats { λ _. ⌜ now (reals .exit) ≡ lent insertReals room words reals (carrierKnown (was value)) CURVES (carrierOwn (was value) (was floats)) ⌝ }
 {
-    additions::curve(room, words, reals, value, floats, id)
+    c_inserts::curve(room, words, reals, value, floats, id)
 }
 
 #[no_mangle]
@@ -170,5 +170,5 @@ pub extern "C" fn brunskerl_insert_surface(
     ensures tables { λ _. ⌜ now (words .exit) ≡ lent insertWords room words reals (carrierKnown (was value)) SURFACES (carrierGiven (was value) (was floats)) ⌝ }
     ensures floats { λ _. ⌜ now (reals .exit) ≡ lent insertReals room words reals (carrierKnown (was value)) SURFACES (carrierOwn (was value) (was floats)) ⌝ }
 {
-    additions::surface(room, words, reals, value, floats, id)
+    c_inserts::surface(room, words, reals, value, floats, id)
 }

@@ -1,5 +1,5 @@
-// The station's calls, for C and Rust: each is one proved call, exported. An answer that is an enum crosses as its number, 0 or
-// the refusal, and its values in lent slots, which a refusal leaves as they were (`crossings`).
+// For callers: the station's calls, for C and Rust. Each is one proved call, exported. An answer that is an enum crosses as its number, 0 or
+// the refusal, and its values in lent slots, which a refusal leaves as they were (the family c_).
 pub mod entries;
 pub mod inserting;
 pub mod lookups;

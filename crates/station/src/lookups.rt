@@ -2,17 +2,17 @@
 ghost use mathlib.Core.Path.{_≡_};
 ghost use mathlib.Core.List.{[], _∷_};
 ghost use lib.Dec.{ltb};
-ghost use Rattle.geometry.specs.Refuse.{_unless_, _then_};
+ghost use Rattle.geom_lines_planes.specs.Refuse.{_unless_, _then_};
 ghost use Rattle.meaning.specs.Model.{has};
-ghost use Rattle.model.specs.Readable.{readable};
-ghost use Rattle.present.specs.Answers.{contained};
-ghost use Rattle.frame.specs.Put.{unlessRefused};
-ghost use Rattle.entity.specs.Seen.{seenBody, seenRegion, seenShell, seenFace, seenLoop, seenFin, seenEdge, seenVertex};
-ghost use Rattle.coded.specs.Tags.{mark};
-ghost use Rattle.fields.specs.Fields.{carrierFields, carrierFloats};
-ghost use Rattle.lent.specs.Lent.{was, lent, held};
-ghost use Rattle.crossings.specs.Crossing.{bodyValue, regionValue, shellValue, faceValue, loopValue, finValue, edgeValue, vertexValue, edgeReals, vertexReals};
-ghost use Rattle.crossings.specs.Given.{entityOf};
+ghost use Rattle.memory_layout.specs.Readable.{readable};
+ghost use Rattle.memory_contains.specs.Answers.{contained};
+ghost use Rattle.memory_writes.specs.Put.{unlessRefused};
+ghost use Rattle.memory_records.specs.Seen.{seenBody, seenRegion, seenShell, seenFace, seenLoop, seenFin, seenEdge, seenVertex};
+ghost use Rattle.edit_tags.specs.Tags.{mark};
+ghost use Rattle.edit_fields.specs.Fields.{carrierFields, carrierFloats};
+ghost use Rattle.c_lent.specs.Lent.{was, lent, held};
+ghost use Rattle.c_values.specs.Crossing.{bodyValue, regionValue, shellValue, faceValue, loopValue, finValue, edgeValue, vertexValue, edgeReals, vertexReals};
+ghost use Rattle.c_values.specs.Given.{entityOf};
 
 #[no_mangle]
 pub extern "C" fn brunskerl_body(
@@ -25,7 +25,7 @@ pub extern "C" fn brunskerl_body(
     ensures answer { λ r. ⌜ r ≡ 9 unless lent readable room words reals then 2 unless has (held room words reals .bodies) id ⌝ }
     ensures slots { λ r. ⌜ now (value .exit) ≡ unlessRefused r (bodyValue (seenBody (held room words reals .bodies .slot id))) (was value) ⌝ }
 {
-    readings::body(room, words, reals, id, value)
+    c_lookups::body(room, words, reals, id, value)
 }
 
 #[no_mangle]
@@ -39,7 +39,7 @@ pub extern "C" fn brunskerl_region(
     ensures answer { λ r. ⌜ r ≡ 9 unless lent readable room words reals then 2 unless has (held room words reals .regions) id ⌝ }
     ensures slots { λ r. ⌜ now (value .exit) ≡ unlessRefused r (regionValue (seenRegion (held room words reals .regions .slot id))) (was value) ⌝ }
 {
-    readings::region(room, words, reals, id, value)
+    c_lookups::region(room, words, reals, id, value)
 }
 
 #[no_mangle]
@@ -53,7 +53,7 @@ pub extern "C" fn brunskerl_shell(
     ensures answer { λ r. ⌜ r ≡ 9 unless lent readable room words reals then 2 unless has (held room words reals .shells) id ⌝ }
     ensures slots { λ r. ⌜ now (value .exit) ≡ unlessRefused r (shellValue (seenShell (held room words reals .shells .slot id))) (was value) ⌝ }
 {
-    readings::shell(room, words, reals, id, value)
+    c_lookups::shell(room, words, reals, id, value)
 }
 
 #[no_mangle]
@@ -67,7 +67,7 @@ pub extern "C" fn brunskerl_face(
     ensures answer { λ r. ⌜ r ≡ 9 unless lent readable room words reals then 2 unless has (held room words reals .faces) id ⌝ }
     ensures slots { λ r. ⌜ now (value .exit) ≡ unlessRefused r (faceValue (seenFace (held room words reals .faces .slot id))) (was value) ⌝ }
 {
-    readings::face(room, words, reals, id, value)
+    c_lookups::face(room, words, reals, id, value)
 }
 
 #[no_mangle]
@@ -81,7 +81,7 @@ pub extern "C" fn brunskerl_loop(
     ensures answer { λ r. ⌜ r ≡ 9 unless lent readable room words reals then 2 unless has (held room words reals .loops) id ⌝ }
     ensures slots { λ r. ⌜ now (value .exit) ≡ unlessRefused r (loopValue (seenLoop (held room words reals .loops .slot id))) (was value) ⌝ }
 {
-    readings::loop_(room, words, reals, id, value)
+    c_lookups::loop_(room, words, reals, id, value)
 }
 
 #[no_mangle]
@@ -95,7 +95,7 @@ pub extern "C" fn brunskerl_fin(
     ensures answer { λ r. ⌜ r ≡ 9 unless lent readable room words reals then 2 unless has (held room words reals .fins) id ⌝ }
     ensures slots { λ r. ⌜ now (value .exit) ≡ unlessRefused r (finValue (seenFin (held room words reals .fins .slot id))) (was value) ⌝ }
 {
-    readings::fin(room, words, reals, id, value)
+    c_lookups::fin(room, words, reals, id, value)
 }
 
 #[no_mangle]
@@ -111,7 +111,7 @@ pub extern "C" fn brunskerl_edge(
     ensures slots { λ r. ⌜ now (value .exit) ≡ unlessRefused r (edgeValue (seenEdge (held room words reals .edges .slot id))) (was value) ⌝ }
     ensures floats { λ r. ⌜ now (floats .exit) ≡ unlessRefused r (edgeReals (seenEdge (held room words reals .edges .slot id))) (was floats) ⌝ }
 {
-    readings::edge(room, words, reals, id, value, floats)
+    c_lookups::edge(room, words, reals, id, value, floats)
 }
 
 #[no_mangle]
@@ -127,7 +127,7 @@ pub extern "C" fn brunskerl_vertex(
     ensures slots { λ r. ⌜ now (value .exit) ≡ unlessRefused r (vertexValue (seenVertex (held room words reals .vertices .slot id))) (was value) ⌝ }
     ensures floats { λ r. ⌜ now (floats .exit) ≡ unlessRefused r (vertexReals (seenVertex (held room words reals .vertices .slot id))) (was floats) ⌝ }
 {
-    readings::vertex(room, words, reals, id, value, floats)
+    c_lookups::vertex(room, words, reals, id, value, floats)
 }
 
 #[no_mangle]
@@ -143,7 +143,7 @@ pub extern "C" fn brunskerl_curve(
     ensures slots { λ r. ⌜ now (value .exit) ≡ unlessRefused r (carrierFields (held room words reals .curves .slot id)) (was value) ⌝ }
     ensures floats { λ r. ⌜ now (floats .exit) ≡ unlessRefused r (carrierFloats (held room words reals .curves .slot id)) (was floats) ⌝ }
 {
-    readings::curve(room, words, reals, id, value, floats)
+    c_lookups::curve(room, words, reals, id, value, floats)
 }
 
 #[no_mangle]
@@ -159,7 +159,7 @@ pub extern "C" fn brunskerl_surface(
     ensures slots { λ r. ⌜ now (value .exit) ≡ unlessRefused r (carrierFields (held room words reals .surfaces .slot id)) (was value) ⌝ }
     ensures floats { λ r. ⌜ now (floats .exit) ≡ unlessRefused r (carrierFloats (held room words reals .surfaces .slot id)) (was floats) ⌝ }
 {
-    readings::surface(room, words, reals, id, value, floats)
+    c_lookups::surface(room, words, reals, id, value, floats)
 }
 
 // Whether an entity exists, by its class, which is the number of its table.
@@ -175,5 +175,5 @@ pub extern "C" fn brunskerl_contains(
     ensures answer { λ r. ⌜ r ≡ 9 unless lent readable room words reals then 1 unless ltb class 8 ⌝ }
     ensures slots { λ r. ⌜ now (value .exit) ≡ unlessRefused r (mark (contained (held room words reals) (entityOf class id)) ∷ []) (was value) ⌝ }
 {
-    queries::contains(room, words, reals, class, id, value)
+    c_queries::contains(room, words, reals, class, id, value)
 }

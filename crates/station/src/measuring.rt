@@ -3,17 +3,17 @@ ghost use mathlib.Core.Path.{_≡_};
 ghost use mathlib.Core.List.{[], _∷_};
 ghost use lib.ListN.{length, replicate};
 ghost use Rattle.meaning.specs.Faults.{sawing};
-ghost use Rattle.model.specs.Names.{EDGES, VERTICES};
-ghost use Rattle.model.specs.Layout.{word};
-ghost use Rattle.frame.specs.Put.{unlessRefused};
-ghost use Rattle.checker.specs.Calls.{asked, checkNumber, checkWords};
-ghost use Rattle.boxes.specs.Answers.{boxNumber};
-ghost use Rattle.volumes.specs.Answers.{volumeNumber};
-ghost use Rattle.cuts.specs.SplitNumber.{splitNumber};
-ghost use Rattle.splits.specs.After.{splitWords, splitReals};
-ghost use Rattle.lent.specs.Lent.{was, lent, held};
-ghost use Rattle.handed.specs.Handed.{wanted};
-ghost use Rattle.measures.specs.Measured.{boxValue, volumeValue, reportValue, fitValue};
+ghost use Rattle.memory_layout.specs.Names.{EDGES, VERTICES};
+ghost use Rattle.memory_layout.specs.Layout.{word};
+ghost use Rattle.memory_writes.specs.Put.{unlessRefused};
+ghost use Rattle.check_report.specs.Calls.{asked, checkNumber, checkWords};
+ghost use Rattle.inquire_box.specs.Answers.{boxNumber};
+ghost use Rattle.inquire_volume.specs.Answers.{volumeNumber};
+ghost use Rattle.split_place.specs.SplitNumber.{splitNumber};
+ghost use Rattle.split_edge.specs.After.{splitWords, splitReals};
+ghost use Rattle.c_lent.specs.Lent.{was, lent, held};
+ghost use Rattle.c_answers.specs.Values.{wanted};
+ghost use Rattle.c_measures.specs.Measures.{boxValue, volumeValue, reportValue, fitValue};
 
 // The two corners of a body's box; `faces`, `edges` and `vertices` are seen marks.
 #[no_mangle]
@@ -33,7 +33,7 @@ pub extern "C" fn brunskerl_body_bounding_box(
     ensures edges { λ _. ⌜ now (edges .exit) ≡ replicate (length (was edges)) 0 ⌝ }
     ensures vertices { λ _. ⌜ now (vertices .exit) ≡ replicate (length (was vertices)) 0 ⌝ }
 {
-    measures::box_of(room, words, reals, body, faces, edges, vertices, value)
+    c_measures::box_of(room, words, reals, body, faces, edges, vertices, value)
 }
 
 // The volume of a body; `faces` are seen marks.
@@ -50,7 +50,7 @@ pub extern "C" fn brunskerl_body_volume(
     ensures slots { λ r. ⌜ now (value .exit) ≡ unlessRefused r (volumeValue (held room words reals) body) (was value) ⌝ }
     ensures faces { λ _. ⌜ now (faces .exit) ≡ replicate (length (was faces)) 0 ⌝ }
 {
-    measures::volume_of(room, words, reals, body, faces, value)
+    c_measures::volume_of(room, words, reals, body, faces, value)
 }
 
 // Splits an edge at a fraction of its range: it, the new edge and the new vertex.
@@ -68,7 +68,7 @@ pub extern "C" fn brunskerl_split_line_edge(
     ensures tables { λ _. ⌜ now (words .exit) ≡ lent splitWords room words reals edge fraction ⌝ }
     ensures floats { λ _. ⌜ now (reals .exit) ≡ lent splitReals room words reals edge fraction ⌝ }
 {
-    measures::split_of(room, words, reals, edge, fraction, value)
+    c_measures::split_of(room, words, reals, edge, fraction, value)
 }
 
 // Checks a body, with geometry where that number is not 0, and so many samples to an edge: how many faults there are, how many were kept, how many checks
@@ -92,7 +92,7 @@ pub extern "C" fn brunskerl_check_body(
     ensures faces { λ _. ⌜ now (faces .exit) ≡ replicate (length (was faces)) 0 ⌝ }
     ensures edges { λ _. ⌜ now (edges .exit) ≡ replicate (length (was edges)) 0 ⌝ }
 {
-    measures::report_of(
+    c_measures::report_of(
         room,
         words,
         reals,
@@ -122,5 +122,5 @@ pub extern "C" fn brunskerl_fit_to_saw(
     ensures faces { λ _. ⌜ now (faces .exit) ≡ replicate (length (was faces)) 0 ⌝ }
     ensures edges { λ _. ⌜ now (edges .exit) ≡ replicate (length (was edges)) 0 ⌝ }
 {
-    measures::fit_of(room, words, reals, body, faces, edges, value)
+    c_measures::fit_of(room, words, reals, body, faces, edges, value)
 }

@@ -1,11 +1,11 @@
 // Making an empty model, and its precision.
 ghost use mathlib.Core.Path.{_≡_};
 ghost use mathlib.Core.List.{[], _∷_};
-ghost use Rattle.geometry.specs.Refuse.{_unless_};
-ghost use Rattle.model.specs.Readable.{readable};
-ghost use Rattle.frame.specs.Put.{unlessRefused};
-ghost use Rattle.blank.specs.Answers.{makeNumber, makeWords, makeReals};
-ghost use Rattle.lent.specs.Lent.{was, lent, held};
+ghost use Rattle.geom_lines_planes.specs.Refuse.{_unless_};
+ghost use Rattle.memory_layout.specs.Readable.{readable};
+ghost use Rattle.memory_writes.specs.Put.{unlessRefused};
+ghost use Rattle.edit_make.specs.Answers.{makeNumber, makeWords, makeReals};
+ghost use Rattle.c_lent.specs.Lent.{was, lent, held};
 
 // An empty model with its precision.
 #[no_mangle]
@@ -19,7 +19,7 @@ pub extern "C" fn brunskerl_make(
     ensures tables { λ _. ⌜ now (words .exit) ≡ lent makeWords room words reals precision ⌝ }
     ensures floats { λ _. ⌜ now (reals .exit) ≡ lent makeReals room words reals precision ⌝ }
 {
-    blank::make(room, words, reals, precision)
+    edit_make::make(room, words, reals, precision)
 }
 
 // The session precision.
@@ -33,5 +33,5 @@ pub extern "C" fn brunskerl_precision(
     ensures answer { λ r. ⌜ r ≡ 9 unless lent readable room words reals ⌝ }
     ensures slots { λ r. ⌜ now (value .exit) ≡ unlessRefused r (held room words reals .precision ∷ []) (was value) ⌝ }
 {
-    queries::precision(room, words, reals, value)
+    c_queries::precision(room, words, reals, value)
 }

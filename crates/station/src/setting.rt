@@ -2,11 +2,11 @@
 ghost use mathlib.Core.Path.{_≡_};
 ghost use mathlib.Core.Bool.{true};
 ghost use mathlib.Core.List.{[], _∷_};
-ghost use Rattle.edits.specs.Answers.{editNumber, editWords, editReals};
-ghost use Rattle.lent.specs.Lent.{was, lent};
-ghost use Rattle.crossings.specs.Given.{bodyKnown, regionKnown, faceKnown, finKnown, carrierKnown, edgeGood, vertexGood, bodyGiven, regionGiven, shellGiven, faceGiven, loopGiven, finGiven, edgeGiven, vertexGiven, carrierGiven, edgeOwn, vertexOwn, carrierOwn};
-ghost use Rattle.coded.specs.Tags.{mark};
-ghost use Rattle.model.specs.Names.{BODIES, REGIONS, SHELLS, FACES, LOOPS, FINS, EDGES, VERTICES, CURVES, SURFACES, AT-FIN-PCURVE};
+ghost use Rattle.edit_core.specs.Answers.{editNumber, editWords, editReals};
+ghost use Rattle.c_lent.specs.Lent.{was, lent};
+ghost use Rattle.c_values.specs.Given.{bodyKnown, regionKnown, faceKnown, finKnown, carrierKnown, edgeGood, vertexGood, bodyGiven, regionGiven, shellGiven, faceGiven, loopGiven, finGiven, edgeGiven, vertexGiven, carrierGiven, edgeOwn, vertexOwn, carrierOwn};
+ghost use Rattle.edit_tags.specs.Tags.{mark};
+ghost use Rattle.memory_layout.specs.Names.{BODIES, REGIONS, SHELLS, FACES, LOOPS, FINS, EDGES, VERTICES, CURVES, SURFACES, AT-FIN-PCURVE};
 
 #[no_mangle]
 pub extern "C" fn brunskerl_set_body(
@@ -20,7 +20,7 @@ pub extern "C" fn brunskerl_set_body(
     ensures tables { λ _. ⌜ now (words .exit) ≡ lent editWords room words reals (bodyKnown (was value)) BODIES id 0 (bodyGiven (was value)) ⌝ }
     ensures floats { λ _. ⌜ now (reals .exit) ≡ lent editReals room words reals (bodyKnown (was value)) BODIES id [] ⌝ }
 {
-    changes::body(room, words, reals, id, value)
+    c_sets::body(room, words, reals, id, value)
 }
 
 #[no_mangle]
@@ -35,7 +35,7 @@ pub extern "C" fn brunskerl_set_region(
     ensures tables { λ _. ⌜ now (words .exit) ≡ lent editWords room words reals (regionKnown (was value)) REGIONS id 0 (regionGiven (was value)) ⌝ }
     ensures floats { λ _. ⌜ now (reals .exit) ≡ lent editReals room words reals (regionKnown (was value)) REGIONS id [] ⌝ }
 {
-    changes::region(room, words, reals, id, value)
+    c_sets::region(room, words, reals, id, value)
 }
 
 #[no_mangle]
@@ -50,7 +50,7 @@ pub extern "C" fn brunskerl_set_shell(
     ensures tables { λ _. ⌜ now (words .exit) ≡ lent editWords room words reals true SHELLS id 0 (shellGiven (was value)) ⌝ }
     ensures floats { λ _. ⌜ now (reals .exit) ≡ lent editReals room words reals true SHELLS id [] ⌝ }
 {
-    changes::shell(room, words, reals, id, value)
+    c_sets::shell(room, words, reals, id, value)
 }
 
 #[no_mangle]
@@ -65,7 +65,7 @@ pub extern "C" fn brunskerl_set_face(
     ensures tables { λ _. ⌜ now (words .exit) ≡ lent editWords room words reals (faceKnown (was value)) FACES id 0 (faceGiven (was value)) ⌝ }
     ensures floats { λ _. ⌜ now (reals .exit) ≡ lent editReals room words reals (faceKnown (was value)) FACES id [] ⌝ }
 {
-    senses::face(room, words, reals, id, value)
+    c_sets::face(room, words, reals, id, value)
 }
 
 #[no_mangle]
@@ -80,7 +80,7 @@ pub extern "C" fn brunskerl_set_loop(
     ensures tables { λ _. ⌜ now (words .exit) ≡ lent editWords room words reals true LOOPS id 0 (loopGiven (was value)) ⌝ }
     ensures floats { λ _. ⌜ now (reals .exit) ≡ lent editReals room words reals true LOOPS id [] ⌝ }
 {
-    changes::loop_(room, words, reals, id, value)
+    c_sets::loop_(room, words, reals, id, value)
 }
 
 #[no_mangle]
@@ -95,7 +95,7 @@ pub extern "C" fn brunskerl_set_fin(
     ensures tables { λ _. ⌜ now (words .exit) ≡ lent editWords room words reals (finKnown (was value)) FINS id 0 (finGiven (was value)) ⌝ }
     ensures floats { λ _. ⌜ now (reals .exit) ≡ lent editReals room words reals (finKnown (was value)) FINS id [] ⌝ }
 {
-    senses::fin(room, words, reals, id, value)
+    c_sets::fin(room, words, reals, id, value)
 }
 
 #[no_mangle]
@@ -111,7 +111,7 @@ pub extern "C" fn brunskerl_set_edge(
     ensures tables { λ _. ⌜ now (words .exit) ≡ lent editWords room words reals (edgeGood (was value) (was floats)) EDGES id 0 (edgeGiven (was value) (was floats)) ⌝ }
     ensures floats { λ _. ⌜ now (reals .exit) ≡ lent editReals room words reals (edgeGood (was value) (was floats)) EDGES id (edgeOwn (was value) (was floats)) ⌝ }
 {
-    changes::edge(room, words, reals, id, value, floats)
+    c_sets::edge(room, words, reals, id, value, floats)
 }
 
 #[no_mangle]
@@ -127,7 +127,7 @@ pub extern "C" fn brunskerl_set_vertex(
     ensures tables { λ _. ⌜ now (words .exit) ≡ lent editWords room words reals (vertexGood (was value) (was floats)) VERTICES id 0 (vertexGiven (was value) (was floats)) ⌝ }
     ensures floats { λ _. ⌜ now (reals .exit) ≡ lent editReals room words reals (vertexGood (was value) (was floats)) VERTICES id (vertexOwn (was value) (was floats)) ⌝ }
 {
-    changes::vertex(room, words, reals, id, value, floats)
+    c_sets::vertex(room, words, reals, id, value, floats)
 }
 
 #[no_mangle]
@@ -143,7 +143,7 @@ pub extern "C" fn brunskerl_set_curve(
     ensures tables { λ _. ⌜ now (words .exit) ≡ lent editWords room words reals (carrierKnown (was value)) CURVES id 0 (carrierGiven (was value) (was floats)) ⌝ }
     ensures floats { λ _. ⌜ now (reals .exit) ≡ lent editReals room words reals (carrierKnown (was value)) CURVES id (carrierOwn (was value) (was floats)) ⌝ }
 {
-    changes::curve(room, words, reals, id, value, floats)
+    c_sets::curve(room, words, reals, id, value, floats)
 }
 
 #[no_mangle]
@@ -159,7 +159,7 @@ pub extern "C" fn brunskerl_set_surface(
     ensures tables { λ _. ⌜ now (words .exit) ≡ lent editWords room words reals (carrierKnown (was value)) SURFACES id 0 (carrierGiven (was value) (was floats)) ⌝ }
     ensures floats { λ _. ⌜ now (reals .exit) ≡ lent editReals room words reals (carrierKnown (was value)) SURFACES id (carrierOwn (was value) (was floats)) ⌝ }
 {
-    changes::surface(room, words, reals, id, value, floats)
+    c_sets::surface(room, words, reals, id, value, floats)
 }
 
 // Marks a fin as having a pcurve.
@@ -174,5 +174,5 @@ pub extern "C" fn brunskerl_set_fin_geometry(
     ensures tables { λ _. ⌜ now (words .exit) ≡ lent editWords room words reals true FINS id AT-FIN-PCURVE (mark true ∷ []) ⌝ }
     ensures floats { λ _. ⌜ now (reals .exit) ≡ lent editReals room words reals true FINS id [] ⌝ }
 {
-    single::set_fin_geometry(room, words, reals, id)
+    edit_sets::set_fin_geometry(room, words, reals, id)
 }

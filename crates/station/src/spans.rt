@@ -1,11 +1,11 @@
 // The ends of a fin, and the parameter bounds of an edge.
 ghost use mathlib.Core.Path.{_≡_};
 ghost use Rattle.meaning.specs.Walks.{endsOf};
-ghost use Rattle.bounds.specs.Answers.{boundsNumber};
-ghost use Rattle.tips.specs.Answers.{seenEnds, finVerticesNumber};
-ghost use Rattle.frame.specs.Put.{unlessRefused};
-ghost use Rattle.lent.specs.Lent.{was, lent, held};
-ghost use Rattle.crossings.specs.Crossing.{tipsValue, rangeValue};
+ghost use Rattle.split_bounds.specs.Answers.{boundsNumber};
+ghost use Rattle.walk_fin_ends.specs.Answers.{seenEnds, finVerticesNumber};
+ghost use Rattle.memory_writes.specs.Put.{unlessRefused};
+ghost use Rattle.c_lent.specs.Lent.{was, lent, held};
+ghost use Rattle.c_values.specs.Crossing.{tipsValue, rangeValue};
 
 // The start and end vertices of a fin, each as a tag and an id.
 #[no_mangle]
@@ -19,7 +19,7 @@ pub extern "C" fn brunskerl_fin_vertices(
     ensures answer { λ r. ⌜ r ≡ lent finVerticesNumber room words reals fin ⌝ }
     ensures slots { λ r. ⌜ now (value .exit) ≡ unlessRefused r (tipsValue (seenEnds (endsOf (held room words reals) fin))) (was value) ⌝ }
 {
-    queries::fin_vertices(room, words, reals, fin, value)
+    c_queries::fin_vertices(room, words, reals, fin, value)
 }
 
 // The parameter bounds of a straight edge on its line.
@@ -34,5 +34,5 @@ pub extern "C" fn brunskerl_edge_parameter_bounds(
     ensures answer { λ r. ⌜ r ≡ lent boundsNumber room words reals edge ⌝ }
     ensures slots { λ r. ⌜ now (value .exit) ≡ unlessRefused r (rangeValue (held room words reals) edge) (was value) ⌝ }
 {
-    queries::bounds_of(room, words, reals, edge, value)
+    c_queries::bounds_of(room, words, reals, edge, value)
 }

@@ -1,11 +1,11 @@
 // The three walks: how many ids were put into the front of the lent list, and the number in a lent slot.
-use tours::write_edges;
-use tours::write_faces;
-use tours::write_vertices;
+use walk_body::write_edges;
+use walk_body::write_faces;
+use walk_body::write_vertices;
 ghost use mathlib.Core.Path.{_≡_};
 ghost use lib.ListN.{length, replicate};
-ghost use Rattle.lent.specs.Lent.{was, lent};
-ghost use Rattle.walks.specs.Calls.{inFront, facesNumber, facesHanded, edgesNumber, edgesHanded, verticesNumber, verticesHanded};
+ghost use Rattle.c_lent.specs.Lent.{was, lent};
+ghost use Rattle.walk_answers.specs.Calls.{inFront, facesNumber, facesHanded, edgesNumber, edgesHanded, verticesNumber, verticesHanded};
 
 // The faces of a body; `faces` are seen marks.
 #[no_mangle]

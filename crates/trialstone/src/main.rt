@@ -1,14 +1,16 @@
-// 01's program `trialstone`: splits edge A of the trial stone at 0.25 and prints, before and after: faces, edges, vertices, fins, faults
+// Program: 01's `trialstone`. Splits edge A of the trial stone at 0.25 and prints, before and after: faces, edges, vertices, fins, faults
 // with geometry off.
-use census::edges;
-use census::faces;
-use census::faults;
-use census::fins;
-use census::vertices;
-use replies::Split;
-use splits::split_line_edge;
-use stones::ROOM;
-use stones::trial_stone;
+mod census;
+
+use crate::census::edges;
+use crate::census::faces;
+use crate::census::faults;
+use crate::census::fins;
+use crate::census::vertices;
+use split_edge::split_line_edge;
+use station_answers::Split;
+use trial_inserts::ROOM;
+use trial_inserts::trial_stone;
 
 fn line(words: &[u32; 8377], reals: &[f64; 158]) {
     let w = &words[..];

@@ -1,5 +1,5 @@
 //! Writes the list that the program recall replays: the trial stone and small models, sound and damaged, laid out in
-//! lent memory, and what the Rust answers about each. `compare/run recall > crates/recall/stdin`; compare/README.md has the rows.
+//! lent memory, and what the Rust answers about each. `compare/run recall > crates/replay_models/stdin`; compare/README.md has the rows.
 
 use calls::layout::{LISTS, Lent};
 use models::original::{self, Names, Told};

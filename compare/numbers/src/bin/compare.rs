@@ -7,7 +7,7 @@ use std::process::ExitCode;
 use numbers::random::{Random, Style};
 use numbers::{Answer, By, Kind, OPERATIONS, Operation, Row, told};
 
-#[link(name = "probe", kind = "static")]
+#[link(name = "replay_probe", kind = "static")]
 unsafe extern "C" {
     fn brunskerl_probe(op: u32, x: *const [f64; 12], out: *mut [f64; 6]) -> u32;
 }

@@ -1,3 +1,0 @@
-pub mod Attached
-pub mod Facts
-pub mod Laws

@@ -1,3 +1,0 @@
-pub mod Beside
-pub mod Facts
-pub mod Laws

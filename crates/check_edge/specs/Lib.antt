@@ -1,0 +1,2 @@
+pub mod Edge
+pub mod Laws

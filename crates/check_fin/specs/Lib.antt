@@ -1,0 +1,2 @@
+pub mod Fin
+pub mod Laws

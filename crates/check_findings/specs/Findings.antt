@@ -1,0 +1,17 @@
+-- The checker's start, and which bodies are solid. No reader of a public promise needs this file. Definitions only.
+use mathlib.Core.Bool.{Bool, true, false}
+use Rattle.memory_records.specs.declared.records.BodyKind.{BodyKind}
+use Rattle.memory_records.specs.declared.records.BodyKind.the-variants as Kinds
+use Rattle.check_reasons.specs.declared.Tally.{Tally}
+
+-- nothing found so far
+abbrev pub nothingYet : Tally
+nothingYet = record { faults = 0; unchecked = 0 }
+
+-- `isSolid`
+abbrev pub solidKind : BodyKind → Bool
+solidKind Kinds.Acorn = false
+solidKind Kinds.Wire = false
+solidKind Kinds.Sheet = false
+solidKind Kinds.Solid = true
+solidKind Kinds.General = false

@@ -1,0 +1,2 @@
+pub mod OpenLoop
+pub mod Laws

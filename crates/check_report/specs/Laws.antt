@@ -1,0 +1,179 @@
+-- The lent words of the checker, and its refusals. Assumes nothing.
+use Prim.Native.Nat.{ℕ, zero, suc, _+_, _*_, _/_, _≤_, _<_}
+use native.Mathlib.Omega.{arith}
+use native.Mathlib.Nat.{div-add-mod'}
+use mathlib.Core.Path.{_≡_, refl, sym, ap, _∙_}
+use mathlib.Core.Bool.{Bool, true, false, cond, _&&_}
+use mathlib.Core.List.{List, [], _∷_, _++_, append-assoc}
+use lib.Dec.{eqb, ltb, leb}
+use lib.Ieee.{Float}
+use lib.ListN.{length, set, take, drop, take-append-drop}
+use lib.Seq.{sets, take-all, take-nil, length-take-le, drop-append-le}
+use borrow.Author.Tests.{ltb-true, ltb-false, leb-true, leb-false}
+use Rattle.geom_lines_planes.specs.Refuse.{answer}
+use Rattle.meaning.specs.Faults as Faults
+use Rattle.meaning.specs.Faults.{Fault, Finding, faultsOf, skippedOf, reportOf, kept, counts, CheckOptions, checkRefusal, sawing, sawable}
+use Rattle.meaning_list_laws.specs.Tests.{refused-answer}
+use Rattle.memory_layout.specs.Decode.{decode}
+use Rattle.memory_layout.specs.Readable.{readable}
+use Rattle.check_reasons.specs.declared.Tally.{Tally}
+use Rattle.check_reasons.specs.Log.{faultWords, faultsWords, Log, logOf, Noted}
+use Rattle.check_reasons.specs.Laws.{logged-report}
+use Rattle.walk_answers.specs.Calls.{reach, handed, inFront}
+use Rattle.walk_answers.specs.Decoded.{refusedBy}
+use Rattle.check_refusals.specs.Facts.{askRefusal}
+use Rattle.check_findings.specs.Findings.{nothingYet}
+use Rattle.station_answers.specs.declared.Counts.{Counts}
+use Rattle.station_answers.specs.declared.Checked.{Checked}
+use Rattle.station_answers.specs.declared.Checked.the-variants as Checks
+use Rattle.station_answers.specs.declared.Sawable.the-variants as Saws
+use Rattle.check_report.specs.Calls.{asked, seenCounts, reportOn, checkNumber, checkAnswer, checkWords, fitAnswer}
+use Rattle.meaning_list_laws.specs.Lists.{drop-end}
+
+-- ---- entries put from the front on, as far as the list goes
+
+sets-none : (i : ℕ) (l : List ℕ) → sets [] i l ≡ []
+sets-none i [] = refl
+sets-none i (y ∷ l) = sets-none (suc i) l
+
+sets-behind : (x : ℕ) (d : List ℕ) (i : ℕ) (l : List ℕ) → sets (x ∷ d) (suc i) l ≡ x ∷ sets d i l
+sets-behind x d i [] = refl
+sets-behind x d i (y ∷ l) = sets-behind x (set d i y) (suc i) l
+
+sets-front : (d l : List ℕ) → sets d 0 l ≡ take (length d) l ++ drop (length l) d
+sets-front d [] = sym (ap (λ a. a ++ d) (take-nil (length d)))
+sets-front [] (y ∷ l) = sets-none 0 (y ∷ l)
+sets-front (x ∷ d) (y ∷ l) = sets-behind y d 0 l ∙ ap (λ a. y ∷ a) (sets-front d l)
+
+-- the words of the first faults
+words-length : (l : List Fault) → length (faultsWords l) ≡ 4 * length l
+unfolding faultsWords
+words-length [] = refl
+words-length (f ∷ l) = omega (arith, words-length l)
+
+words-first : (k : ℕ) (l : List Fault) → take (4 * k) (faultsWords l) ≡ faultsWords (take k l)
+unfolding faultsWords
+words-first zero l = refl
+words-first (suc k) [] = take-nil (4 * suc k)
+words-first (suc k) (f ∷ l) =
+    let e : 4 * suc k ≡ suc (suc (suc (suc (4 * k)))) = omega arith in
+    ap (λ n. take n (faultWords f ++ faultsWords l)) e ∙ ap (λ a. faultWords f ++ a) (words-first k l)
+
+-- a list of which only a front part was lent
+front-rest : (d l : List ℕ) (n : ℕ) → n ≤ length d → drop (length l) (take n d) ++ drop n d ≡ drop (length (take n l)) d
+front-rest d l n h = by (leb (length l) n) refl
+  where
+    long : length (take n d) ≡ n
+    long = length-take-le n d h
+
+    by : (b : Bool) → leb (length l) n ≡ b → drop (length l) (take n d) ++ drop n d ≡ drop (length (take n l)) d
+    by true e =
+        let a : length l ≤ n = leb-true (length l) n e in
+        let g : length l ≤ length (take n d) = omega (arith, long) in
+        sym (drop-append-le (length l) (take n d) (drop n d) g)
+        ∙ ap (drop (length l)) (take-append-drop n d)
+        ∙ ap (λ i. drop i d) (ap length (sym (take-all n l a)))
+    by false e =
+        let a : n < length l = leb-false (length l) n e in
+        let g : length (take n d) ≤ length l = omega (arith, long) in
+        ap (λ r. r ++ drop n d) (drop-end (length l) (take n d) g) ∙ ap (λ i. drop i d) (sym (length-take-le n l (omega arith)))
+
+pub front-put : (d l : List ℕ) (n : ℕ) → n ≤ length d → sets (take n d) 0 l ++ drop n d ≡ inFront (take n l) d
+unfolding inFront
+front-put d l n h =
+    let long : length (take n d) ≡ n = length-take-le n d h in
+    ap (λ a. a ++ drop n d) (sets-front (take n d) l ∙ ap (λ i. take i l ++ drop (length l) (take n d)) long)
+    ∙ append-assoc (take n l) (drop (length l) (take n d)) (drop n d)
+    ∙ ap (λ a. take n l ++ a) (front-rest d l n h)
+
+-- how many of the first are kept
+first-few : (n : ℕ) (a : List Fault) → cond (ltb (length a) n) (length a) n ≡ length (take n a)
+first-few n a = by (ltb (length a) n) refl
+  where
+    by : (b : Bool) → ltb (length a) n ≡ b → cond (ltb (length a) n) (length a) n ≡ length (take n a)
+    by true h = let q : length a < n = ltb-true (length a) n h in rw h (ap length (sym (take-all n a (omega arith))))
+    by false h = rw h (sym (length-take-le n a (ltb-false (length a) n h)))
+
+-- ---- what was logged on that part, from nothing
+
+module _ (d e : List ℕ) (k : ℕ) (l : List Finding) (r : Tally) (p : Noted l (take (4 * k) d) nothingYet e r) where
+  told : logOf e r ≡ record { list = sets (take (4 * k) d) 0 (faultsWords (faultsOf l)); faults = 0 + length (faultsOf l); unchecked = 0 + skippedOf l }
+  told = p .log ∙ logged-report (take (4 * k) d) 0 0 l
+
+  pub words-kept : 4 * k ≤ length d → e ++ drop (4 * k) d ≡ inFront (faultsWords (kept k (reportOf l))) d
+  unfolding reportOf
+  words-kept h =
+      ap (λ (g : Log). g .list ++ drop (4 * k) d) told
+      ∙ front-put d (faultsWords (faultsOf l)) (4 * k) h
+      ∙ ap (λ a. inFront a d) (words-first k (faultsOf l))
+
+  faults-told : r .faults ≡ length (faultsOf l)
+  faults-told = let z : r .faults ≡ 0 + length (faultsOf l) = ap (λ (g : Log). g .faults) told in omega arith
+
+  unchecked-told : r .unchecked ≡ skippedOf l
+  unchecked-told = let z : r .unchecked ≡ 0 + skippedOf l = ap (λ (g : Log). g .unchecked) told in omega arith
+
+  pub counts-told : (s : ℕ) → s ≡ cond (ltb (r .faults) k) (r .faults) k → _≡_ {A = Counts} (record { faults = r .faults; kept = s; unchecked = r .unchecked }) (seenCounts (counts k (reportOf l)))
+  unfolding reportOf
+  counts-told s q =
+      let few : s ≡ length (take k (faultsOf l)) = q ∙ ap (λ i. cond (ltb i k) i k) faults-told ∙ first-few k (faultsOf l) in
+      cc (faults-told, unchecked-told, few)
+
+pub quarter : (n : ℕ) → 4 * (n / 4) ≤ n
+quarter n = omega (arith, div-add-mod' n 4)
+
+-- ---- the call
+
+module _ (room w : List ℕ) (x : List Float) (b : ℕ) where
+  pub number-told : (geometry : Bool) (samples : ℕ) (faces edges : List ℕ)
+      → refusedBy (readable room w x) (reach room 3 faces && reach room 6 edges) (askRefusal (decode room w x) samples b) ≡ checkNumber room w x b (asked geometry samples) faces edges
+  unfolding refusedBy checkNumber askRefusal checkRefusal
+  number-told geometry samples faces edges = refl
+
+  module _ (o : CheckOptions) (faces edges nums : List ℕ) where
+    pub answer-refused : (n : ℕ) → n ≡ checkNumber room w x b o faces edges → (n ≡ 0 → ⊥) → Checks.Refused n ≡ checkAnswer room w x b o faces edges nums
+    unfolding checkAnswer
+    answer-refused n e h =
+        refused-answer Checks.Is Checks.Refused n (seenCounts (counts (length nums / 4) (reportOn room w x b o))) h
+        ∙ ap (λ k. answer Checks.Is Checks.Refused k (seenCounts (counts (length nums / 4) (reportOn room w x b o)))) e
+
+    pub words-refused : (n : ℕ) → n ≡ checkNumber room w x b o faces edges → (n ≡ 0 → ⊥) → nums ≡ checkWords room w x b o faces edges nums
+    unfolding checkWords
+    words-refused n e h = by n h ∙ ap (λ k. inFront (handed k (faultsWords (kept (length nums / 4) (reportOn room w x b o)))) nums) e
+      where
+        by : (k : ℕ) → (k ≡ 0 → ⊥) → nums ≡ inFront (handed k (faultsWords (kept (length nums / 4) (reportOn room w x b o)))) nums
+        by zero q = absurd (q refl)
+        by (suc k) q = unfold inFront handed in refl
+
+    pub answer-given : (c : Counts) → 0 ≡ checkNumber room w x b o faces edges → c ≡ seenCounts (counts (length nums / 4) (reportOn room w x b o)) → Checks.Is c ≡ checkAnswer room w x b o faces edges nums
+    unfolding checkAnswer
+    answer-given c e h = ap Checks.Is h ∙ ap (λ k. answer Checks.Is Checks.Refused k (seenCounts (counts (length nums / 4) (reportOn room w x b o)))) e
+
+    pub words-given : (d : List ℕ) → 0 ≡ checkNumber room w x b o faces edges → d ≡ inFront (faultsWords (kept (length nums / 4) (reportOn room w x b o))) nums → d ≡ checkWords room w x b o faces edges nums
+    unfolding checkWords
+    words-given d e h = h ∙ start ∙ ap (λ k. inFront (handed k (faultsWords (kept (length nums / 4) (reportOn room w x b o)))) nums) e
+      where
+        start : inFront (faultsWords (kept (length nums / 4) (reportOn room w x b o))) nums ≡ inFront (handed 0 (faultsWords (kept (length nums / 4) (reportOn room w x b o)))) nums
+        start = unfold handed in refl
+
+  -- ---- fit to saw, off the report
+
+  module _ (faces edges : List ℕ) (r : Checked) (given : r ≡ checkAnswer room w x b sawing faces edges []) where
+    pub fit-refused : (n : ℕ) → r ≡ Checks.Refused n → Saws.Refused n ≡ fitAnswer room w x b faces edges
+    unfolding checkAnswer fitAnswer
+    fit-refused n e = by (checkNumber room w x b sawing faces edges) (sym given ∙ e)
+      where
+        by : (k : ℕ) → answer Checks.Is Checks.Refused k (seenCounts (counts 0 (reportOn room w x b sawing))) ≡ Checks.Refused n → Saws.Refused n ≡ answer Saws.Is Saws.Refused k (sawable (decode room w x) b)
+        by zero q = absurd (let z : _≡_ {A = ℕ} 0 1 = cc in omega arith)
+        by (suc k) q = let same : suc k ≡ n = cc in ap Saws.Refused (sym same)
+
+    pub fit-given : (c : Counts) → r ≡ Checks.Is c → Saws.Is (eqb (c .faults) 0 && eqb (c .unchecked) 0) ≡ fitAnswer room w x b faces edges
+    unfolding checkAnswer fitAnswer
+    fit-given c e = by (checkNumber room w x b sawing faces edges) (sym given ∙ e)
+      where
+        valid : Saws.Is (eqb (seenCounts (counts 0 (reportOn room w x b sawing)) .faults) 0 && eqb (seenCounts (counts 0 (reportOn room w x b sawing)) .unchecked) 0) ≡ Saws.Is (sawable (decode room w x) b)
+        valid = unfold reportOn sawable in refl
+
+        by : (k : ℕ) → answer Checks.Is Checks.Refused k (seenCounts (counts 0 (reportOn room w x b sawing))) ≡ Checks.Is c → Saws.Is (eqb (c .faults) 0 && eqb (c .unchecked) 0) ≡ answer Saws.Is Saws.Refused k (sawable (decode room w x) b)
+        by zero q = let same : seenCounts (counts 0 (reportOn room w x b sawing)) ≡ c = cc in ap (λ (y : Counts). Saws.Is (eqb (y .faults) 0 && eqb (y .unchecked) 0)) (sym same) ∙ valid
+        by (suc k) q = absurd (let z : _≡_ {A = ℕ} 0 1 = cc in omega arith)

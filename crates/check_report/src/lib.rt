@@ -1,0 +1,111 @@
+// For callers: `check_body` of gensolid-check's lib.rs over lent memory, its faults in plain numbers, four to a fault; and `fit_to_saw` (01, "Faults").
+// specs/Calls.antt says which number, which report and which words. Inner: `check`, which asks for what the refusals have tested.
+use check_findings::body_findings;
+use check_refusals::kept_of;
+use check_refusals::refusal;
+use memory_layout::names::EDGES;
+use memory_layout::names::FACES;
+use station_answers::Checked;
+use station_answers::Counts;
+use station_answers::Sawable;
+use walk_marks::clear;
+ghost use mathlib.Core.Path.{_≡_};
+ghost use mathlib.Core.Bool.{true};
+ghost use Prim.Native.Nat.{_≤_, _<_, _/_};
+ghost use lib.ListN.{length, replicate};
+ghost use Rattle.meaning.specs.Faults.{counts, kept};
+ghost use Rattle.memory_layout.specs.Names.{BODIES};
+ghost use Rattle.memory_layout.specs.Layout.{word};
+ghost use Rattle.memory_layout.specs.Readable.{readable};
+ghost use Rattle.check_reasons.specs.Log.{faultsWords};
+ghost use Rattle.walk_answers.specs.Calls.{inFront};
+ghost use Rattle.check_report.specs.Calls.{asked, reportOn, seenCounts, checkAnswer, checkWords, fitAnswer};
+
+// The report, its faults put into as many whole entries as the list has. The marks come all zero and are left so.
+fn check(
+    room: &[usize; 10],
+    words: &[u32],
+    reals: &[f64],
+    nums: &mut [u32],
+    geometry: bool,
+    n: u32,
+    body: usize,
+    faces: &mut [u8],
+    edges: &mut [u8],
+) -> Counts
+    requires { ⌜ readable (now room) (now words) (now reals) ≡ true ⌝ }
+    requires { ⌜ (n ≤ 255) × (body < word (now words) BODIES) ⌝ }
+    requires { ⌜ now faces ≡ replicate (length (now faces)) 0 ⌝ }
+    requires { ⌜ now edges ≡ replicate (length (now edges)) 0 ⌝ }
+    ensures { λ r. ⌜ r ≡ seenCounts (counts (length (now (nums .entry)) / 4) (reportOn (now (room .entry)) (now (words .entry)) (now (reals .entry)) body (asked geometry n))) ⌝ }
+    ensures { λ _. ⌜ now (nums .exit) ≡ inFront (faultsWords (kept (length (now (nums .entry)) / 4) (reportOn (now (room .entry)) (now (words .entry)) (now (reals .entry)) body (asked geometry n)))) (now (nums .entry)) ⌝ }
+    ensures { λ _. ⌜ now (faces .exit) ≡ replicate (length (now (faces .entry))) 0 ⌝ }
+    ensures { λ _. ⌜ now (edges .exit) ≡ replicate (length (now (edges .entry))) 0 ⌝ }
+{
+    let space = nums.len() / 4;
+    let end = 4 * space;
+    let t = body_findings(
+        room,
+        words,
+        reals,
+        &mut nums[..end],
+        geometry,
+        n,
+        body,
+        faces,
+        edges,
+    );
+    Counts {
+        faults: t.faults,
+        kept: kept_of(t.faults, space),
+        unchecked: t.unchecked,
+    }
+}
+
+// Checks a body. `faces` and `edges` are seen marks; `nums` gets the faults, four words each: kind, class by its table, id, reason.
+pub fn check_body(
+    room: &[usize; 10],
+    words: &[u32],
+    reals: &[f64],
+    body: usize,
+    geometry: bool,
+    samples: usize,
+    faces: &mut [u8],
+    edges: &mut [u8],
+    nums: &mut [u32],
+) -> Checked
+    ensures answer { λ r. ⌜ r ≡ checkAnswer (now (room .entry)) (now (words .entry)) (now (reals .entry)) body (asked geometry samples) (now (faces .entry)) (now (edges .entry)) (now (nums .entry)) ⌝ }
+    ensures list { λ _. ⌜ now (nums .exit) ≡ checkWords (now (room .entry)) (now (words .entry)) (now (reals .entry)) body (asked geometry samples) (now (faces .entry)) (now (edges .entry)) (now (nums .entry)) ⌝ }
+    ensures faces { λ _. ⌜ now (faces .exit) ≡ replicate (length (now (faces .entry))) 0 ⌝ }
+    ensures edges { λ _. ⌜ now (edges .exit) ≡ replicate (length (now (edges .entry))) 0 ⌝ }
+{
+    let enough = (room[FACES] <= faces.len()) & (room[EDGES] <= edges.len());
+    clear(faces);
+    clear(edges);
+    let number = refusal(room, words, reals, enough, samples, body);
+    if number != 0 {
+        return Checked::Refused(number);
+    }
+    let n = samples as u32;
+    Checked::Is(check(room, words, reals, nums, geometry, n, body, faces, edges))
+}
+
+// Fit to saw: geometry on, three samples, no fault and nothing unchecked.
+pub fn fit_to_saw(
+    room: &[usize; 10],
+    words: &[u32],
+    reals: &[f64],
+    body: usize,
+    faces: &mut [u8],
+    edges: &mut [u8],
+) -> Sawable
+    ensures answer { λ r. ⌜ r ≡ fitAnswer (now (room .entry)) (now (words .entry)) (now (reals .entry)) body (now (faces .entry)) (now (edges .entry)) ⌝ }
+    ensures faces { λ _. ⌜ now (faces .exit) ≡ replicate (length (now (faces .entry))) 0 ⌝ }
+    ensures edges { λ _. ⌜ now (edges .exit) ≡ replicate (length (now (edges .entry))) 0 ⌝ }
+{
+    let mut none: [u32; 0] = [];
+    match check_body(room, words, reals, body, true, 3, faces, edges, &mut none) {
+        Checked::Refused(n) => Sawable::Refused(n),
+        Checked::Is(counts) => Sawable::Is((counts.faults == 0) & (counts.unchecked == 0)),
+    }
+}

@@ -1,4 +1,0 @@
-pub mod Cuts
-pub mod Facts
-pub mod SplitNumber
-pub mod Laws

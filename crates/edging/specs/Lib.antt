@@ -1,2 +1,0 @@
-pub mod Edging
-pub mod Laws

@@ -1,0 +1,35 @@
+-- `edit_inserts::insert_fin` meets its contract. Assumes nothing.
+use borrow.Author.Needs.{needs}
+use Rattle.edit_inserts.proofs.insert_fin.Statement.{statement}
+use Rattle.edit_inserts.proofs.insert_fin.Tie as tie
+
+fin-fields-requires : tie.Need-fin-fields-requires
+fin-fields-requires c κs = search needs
+
+slice-aggregate-insert-fields : tie.Need-slice-aggregate-insert-fields
+slice-aggregate-insert-fields c = search needs
+
+insert-fields-requires : tie.Need-insert-fields-requires
+insert-fields-requires c κs = search needs
+
+same-length : tie.Need-same-length
+same-length c = search needs
+
+same-length-2 : tie.Need-same-length-2
+same-length-2 c = search needs
+
+returns : tie.Need-returns
+returns c =
+    let f = c .before .before .before .before .before .before .before .before .fin-fields .ensures in
+    rw (← f) (c .before .before .before .before .insert-fields .ensures)
+
+pub insert-fin-spec : {M : Type 1} → statement M
+insert-fin-spec =
+    tie.close
+    (tie.spec
+    fin-fields-requires
+    slice-aggregate-insert-fields
+    insert-fields-requires
+    same-length
+    same-length-2
+    returns)

@@ -1,0 +1,38 @@
+// For callers: `make`, an empty model (model.rs, `Model::new`). `specs/Answers.antt` says what it answers and leaves.
+//
+// The family edit_: how a model is made and changed by hand. Call edit_make, edit_inserts, edit_sets, edit_lists. Read edit_core, the core of every
+// insert and edit, then edit_tags and edit_fields, a record's fields as words and floats, then those; edit_effects says what they do to the model.
+use memory_layout::names::PRECISION;
+use memory_readable::lent_ok;
+use memory_record_test::allowed::precision_ok;
+use memory_writes::write::clear;
+ghost use mathlib.Core.Path.{_≡_};
+ghost use Rattle.edit_make.specs.Answers.{makeNumber, makeWords, makeReals};
+
+// Why no model is made, else 0.
+fn make_refusal(room: &[usize; 10], words: &[u32], reals: &[f64], precision: f64) -> u32
+    ensures { λ r. ⌜ r ≡ makeNumber (now (room .entry)) (now (words .entry)) (now (reals .entry)) precision ⌝ }
+{
+    if !lent_ok(room, words, reals) {
+        return 9;
+    }
+    if !precision_ok(precision) {
+        return 1;
+    }
+    0
+}
+
+// An empty model with its precision: 0, or the refusal's number.
+pub fn make(room: &[usize; 10], words: &mut [u32], reals: &mut [f64], precision: f64) -> u32
+    ensures answer { λ r. ⌜ r ≡ makeNumber (now (room .entry)) (now (words .entry)) (now (reals .entry)) precision ⌝ }
+    ensures tables { λ _. ⌜ now (words .exit) ≡ makeWords (now (room .entry)) (now (words .entry)) (now (reals .entry)) precision ⌝ }
+    ensures floats { λ _. ⌜ now (reals .exit) ≡ makeReals (now (room .entry)) (now (words .entry)) (now (reals .entry)) precision ⌝ }
+{
+    let n = make_refusal(room, &words[..], &reals[..], precision);
+    if n != 0 {
+        return n;
+    }
+    clear(&mut words[..10]);
+    reals[PRECISION] = precision;
+    0
+}

@@ -1,2 +1,0 @@
-// The records as typed values (entity.rs), read out of the lent memory.
-pub mod records;

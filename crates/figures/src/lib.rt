@@ -1,2 +1,0 @@
-// Boxes of points (bbox.rs).
-pub mod bbox;

@@ -1,2 +1,0 @@
-pub mod Fins
-pub mod Laws

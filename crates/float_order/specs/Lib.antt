@@ -1,0 +1,4 @@
+pub mod Next
+pub mod Worked
+pub mod Bits
+pub mod Extremes

@@ -1,0 +1,2 @@
+// For callers: points and vectors of floats (vector.rs).
+pub mod vector;

@@ -1,0 +1,4 @@
+pub mod Refuse
+pub mod Geometry
+pub mod Size
+pub mod Laws

@@ -1,3 +1,0 @@
-pub mod Refuse
-pub mod Geometry
-pub mod Size

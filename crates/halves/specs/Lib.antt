@@ -1,3 +1,0 @@
-pub mod Pass
-pub mod Facts
-pub mod Laws

@@ -1,0 +1,3 @@
+pub mod Regions
+pub mod Laws
+pub mod Whole

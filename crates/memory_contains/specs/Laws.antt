@@ -1,0 +1,36 @@
+-- What the proof of `contains` cites. Assumes nothing.
+use Prim.Native.Nat.{ℕ, _<_}
+use mathlib.Core.Path.{_≡_, refl}
+use mathlib.Core.List.{List}
+use native.Mathlib.Omega.{arith}
+use lib.Dec.{ltb}
+use lib.Ieee.{Float}
+use Rattle.memory_layout.specs.Layout.{word}
+use Rattle.memory_layout.specs.Decode.{decode}
+use Rattle.memory_contains.specs.declared.EntityRef.{EntityRef}
+use Rattle.memory_contains.specs.declared.EntityRef.the-variants as Entities
+use Rattle.memory_contains.specs.Answers.{contained}
+use Rattle.memory_contains.specs.Inner.{tableOf, idOf}
+
+-- an entity's table is one of the first eight, and the entity exists where its id is below that table's count
+pub table-small : (e : EntityRef) → tableOf e < 8
+unfolding tableOf
+table-small (Entities.Body i) = omega arith
+table-small (Entities.Region i) = omega arith
+table-small (Entities.Shell i) = omega arith
+table-small (Entities.Face i) = omega arith
+table-small (Entities.Loop i) = omega arith
+table-small (Entities.Fin i) = omega arith
+table-small (Entities.Edge i) = omega arith
+table-small (Entities.Vertex i) = omega arith
+
+pub contained-at : (room w : List ℕ) (x : List Float) (e : EntityRef) → ltb (idOf e) (word w (tableOf e)) ≡ contained (decode room w x) e
+unfolding decode tableOf idOf
+contained-at room w x (Entities.Body i) = refl
+contained-at room w x (Entities.Region i) = refl
+contained-at room w x (Entities.Shell i) = refl
+contained-at room w x (Entities.Face i) = refl
+contained-at room w x (Entities.Loop i) = refl
+contained-at room w x (Entities.Fin i) = refl
+contained-at room w x (Entities.Edge i) = refl
+contained-at room w x (Entities.Vertex i) = refl

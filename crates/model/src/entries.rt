@@ -1,5 +1,0 @@
-// An entry, or the refusal's number.
-pub enum Entry {
-    Is(u32),
-    Refused(u32),
-}

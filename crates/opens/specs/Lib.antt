@@ -1,2 +1,0 @@
-pub mod Opens
-pub mod Laws

@@ -1,2 +1,0 @@
-pub mod Polygons
-pub mod Laws

@@ -1,3 +1,0 @@
-pub mod Leaves
-pub mod Laws
-pub mod Statements

@@ -1,3 +1,0 @@
-// No code: what each insert and each set of a record does to the model (crates `inserts`, `sets`; model.rs, `RawEditor`).
-// `specs/Statements.antt` says it.
-pub fn nothing() {}

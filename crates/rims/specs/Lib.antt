@@ -1,3 +1,0 @@
-pub mod Rims
-pub mod Steps
-pub mod Laws

@@ -1,0 +1,4 @@
+pub mod Answers
+pub mod Laws
+pub mod Ends
+pub mod EndsLaws

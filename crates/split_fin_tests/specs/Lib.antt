@@ -1,0 +1,3 @@
+pub mod FinTests
+pub mod Laws
+pub mod FaceTests

@@ -1,0 +1,4 @@
+pub mod Place
+pub mod Facts
+pub mod SplitNumber
+pub mod Laws

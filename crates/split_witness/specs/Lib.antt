@@ -1,0 +1,4 @@
+pub mod Evaluated
+pub mod Statements
+pub mod Alike
+pub mod Stone

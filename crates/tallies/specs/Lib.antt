@@ -1,3 +1,0 @@
-pub mod Tallies
-pub mod Laws
-pub mod Whole

@@ -1,2 +1,0 @@
-// Points and vectors of floats (vector.rs).
-pub mod vector;

@@ -1,2 +1,0 @@
-pub mod Evaluated
-pub mod Statements

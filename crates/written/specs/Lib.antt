@@ -1,2 +1,0 @@
-pub mod Meant
-pub mod Read
