@@ -1,6 +1,5 @@
 pub mod Terms
 pub mod Loops
-pub mod Findings
 pub mod After
 pub mod Decided
 pub mod Clean

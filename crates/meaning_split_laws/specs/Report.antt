@@ -2,10 +2,10 @@
 use Prim.Native.Nat.{ℕ, zero, suc, _+_, _≤_, _<_}
 use native.Mathlib.Omega.{arith}
 use mathlib.Core.Path.{_≡_, refl, sym, ap, _∙_}
-use mathlib.Core.Bool.{Bool, true, false, cond, _&&_, _||_, false≢true, or-true}
+use mathlib.Core.Bool.{Bool, true, false, cond, _&&_}
 use mathlib.Core.List.{List, [], _∷_, _++_}
 use lib.Dec.{eqb, ltb}
-use lib.ListN.{length, getD, length-append}
+use lib.ListN.{length, getD}
 use lib.Ieee.{Float}
 use borrow.Author.Tests.{eqb-true, eqb-false, lt-ltb, eq-eqb}
 use Rattle.meaning.specs.Lists.{run, all, member, count, joined}
@@ -13,11 +13,11 @@ use Rattle.meaning.specs.Model.{Model, has, extended, changed, body, fin, edge,
 use Rattle.meaning.specs.Walks.{edgeWalk, edgesRefusal}
 use Rattle.meaning.specs.Inquire.{isSolid}
 use Rattle.meaning.specs.Split.{splitRefusal, afterSplit, modelAfter, Cut, afterAll}
-use Rattle.meaning.specs.Faults.{Finding, faultOn, fault, onlyIf, regionFindings, layout, sameSense, manifold, manifoldEdge, manifoldEdges, findings, faultsOf, reportOf}
+use Rattle.meaning.specs.Faults.{Finding, fault, onlyIf, regionFindings, layout, sameSense, manifold, manifoldEdge, manifoldEdges, findings, faultsOf, reportOf}
 use Rattle.meaning.specs.Formed.{WellFormed, topological, topologicalReport, emptyReport}
 use Rattle.meaning_list_laws.specs.Tests.{bit-true}
 use Rattle.meaning_list_laws.specs.Lists.{count-present, below-nth}
-use Rattle.meaning_split_laws.specs.Findings.{faultsOf-append}
+use Rattle.meaning_list_laws.specs.Findings.{NoFault, no-fault-append, no-fault-parts, no-fault-joined, no-fault-at, one-fault, only-if-false}
 use Rattle.meaning_split_laws.specs.After.{fin-was, fin-fresh, edge-fresh, edge-was-fins, accepted, went-to, bodies-kept}
 use Rattle.meaning_split_laws.specs.Clean.{surfaceless, regions-clean}
 use Rattle.meaning_split_laws.specs.Kept.{well-formed-kept, split-keeps}
@@ -40,45 +40,7 @@ regions-report-kept x m e t w h b hb =
     ∙ ap (λ l. layout m b (body m b .regions) ++ l)
     (regions-clean x (afterSplit m e t) (well-formed-kept x m w e t (accepted x m e t h .0) (accepted x m e t h .1)) b hb ∙ sym (regions-clean x m w b hb))
 
--- ---- findings without a fault
-
-abbrev pub NoFault : List Finding → Type 0
-NoFault l = length (faultsOf l) ≡ 0
-
-pub no-fault-append : (k l : List Finding) → NoFault k → NoFault l → NoFault (k ++ l)
-no-fault-append k l p q = rw (faultsOf-append k l, length-append (faultsOf k) (faultsOf l)) (omega arith)
-
-pub no-fault-parts : (k l : List Finding) → NoFault (k ++ l) → NoFault k × NoFault l
-no-fault-parts k l h =
-    let sum : length (faultsOf k) + length (faultsOf l) ≡ 0 = sym (length-append (faultsOf k) (faultsOf l)) ∙ ap length (sym (faultsOf-append k l)) ∙ h in
-    (omega arith, omega arith)
-
-pub no-fault-joined : (f : ℕ → List Finding) (l : List ℕ) → ((p : ℕ) → member p l ≡ true → NoFault (f p)) → NoFault (joined f l)
-unfolding joined member
-no-fault-joined f [] h = unfold faultsOf in refl
-no-fault-joined f (y ∷ l) h =
-    no-fault-append (f y) (joined f l) (h y (rw (eq-eqb y y refl))) (no-fault-joined f l (λ p q. h p (rw q (or-true (eqb p y)))))
-
-pub no-fault-at : (f : ℕ → List Finding) (l : List ℕ) → NoFault (joined f l) → (p : ℕ) → member p l ≡ true → NoFault (f p)
-unfolding joined member
-no-fault-at f [] h p q = absurd (false≢true q)
-no-fault-at f (y ∷ l) h p q =
-    let both : NoFault (f y) × NoFault (joined f l) = no-fault-parts (f y) (joined f l) h in
-    by (eqb p y) refl q (both .0) (no-fault-at f l (both .1) p)
-  where
-    by : (b : Bool) → eqb p y ≡ b → (b || member p l) ≡ true → NoFault (f y) → (member p l ≡ true → NoFault (f p)) → NoFault (f p)
-    by true r s here rest = rw (eqb-true p y r) here
-    by false r s here rest = rest s
-
 -- ---- manifold edges
-
-one-fault : (n i : ℕ) (l : List Finding) → NoFault (fault n i ∷ l) → ⊥
-unfolding faultOn faultsOf
-one-fault n i l h = omega arith
-
-only-if-false : (b : Bool) (n i : ℕ) → NoFault (onlyIf b (fault n i)) → b ≡ false
-only-if-false true n i h = absurd (one-fault n i [] h)
-only-if-false false n i h = refl
 
 -- an edge without a fault has two fins, of two senses
 record TwoFins (m : Model) (l : List ℕ) : Type 0 where
