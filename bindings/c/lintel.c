@@ -151,7 +151,7 @@ int main(void)
     report();
     told("a word too few", brunskerl_contains(&room, words, n - 1, reals, m, 0, 0, &id));
     told("an empty model of precision 0", brunskerl_make(LENT, 0));
-    /* An empty body is fit to saw, since nothing is wrong with it: a solid with its void region alone. */
+    /* Nothing is wrong with an empty body, a solid with its void region alone, and it is not fit to saw. */
     done(brunskerl_make(LENT, 0.001), "make");
     done(brunskerl_insert_body(LENT, WORDS(1, 3), &id), "body");
     done(brunskerl_insert_region(LENT, WORDS(2, 0, 0), &id), "region");

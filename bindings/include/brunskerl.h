@@ -151,10 +151,10 @@ uint32_t brunskerl_split_line_edge(BRUNSKERL_MEMORY_OUT, size_t edge, double fra
  * reason. */
 uint32_t brunskerl_check_body(BRUNSKERL_MEMORY, size_t body, uint32_t geometry, size_t samples, uint8_t *faces, size_t f, uint8_t *edges, size_t e, uint32_t *list, size_t l, size_t (*counts)[3]);
 
-/* 1 where the body is fit to saw: geometry checked with three samples, no fault, nothing unchecked; and no more than that. It is 1 for an empty body
- * (a solid with its void region alone, whose volume is refused with 4), for one inside out (whose volume is negative), for a flat one (whose volume
- * is 0), for a wire or a sheet (whose volume is refused with 6), and for one whose own tolerances swallow its errors. Ask for the volume and the box
- * too. Refusals: 9, 8 for short marks, 2. */
+/* 1 where the body is fit to saw: geometry checked with three samples, no fault, nothing unchecked; the body is solid, a solid region of it has a face,
+ * and every shell that a face of it names is one of the body's and lists the face. No more than that: it is 1 for a stone inside out (whose volume is
+ * negative), for a flat one (whose volume is 0), and for one whose own tolerances swallow its errors. Ask for the volume and the box too. Refusals: 9,
+ * 8 for short marks, 2. */
 uint32_t brunskerl_fit_to_saw(BRUNSKERL_MEMORY, size_t body, uint8_t *faces, size_t f, uint8_t *edges, size_t e, uint32_t (*fit)[1]);
 
 #ifdef __cplusplus

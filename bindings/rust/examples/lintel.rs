@@ -12,7 +12,7 @@ fn report(model: &Model, body: u32) -> Result<(), Refusal> {
         model.body_volume(body)?,
         report.faults.len(),
         report.unchecked,
-        if report.is_valid() { "fit to saw" } else { "not fit to saw" },
+        if model.fit_to_saw(body)? { "fit to saw" } else { "not fit to saw" },
     );
     for fault in &report.faults {
         println!("  {}", model.describe(fault));

@@ -490,11 +490,11 @@ impl Model {
         }
     }
 
-    /// Geometry checked with three samples to an edge, no fault, and nothing unchecked: 01's rule, and no more than that.
+    /// Geometry checked with three samples to an edge, no fault, and nothing unchecked; and the body is solid, a solid region of it has a face, and every
+    /// shell that a face of it names is one of the body's and lists the face.
     ///
-    /// It is true of an empty body (a solid with its void region alone, whose volume is refused), of one inside out (whose volume is
-    /// negative), of a flat one (whose volume is 0), of a wire or a sheet (whose volume is refused), and of one whose own tolerances swallow its
-    /// errors. Ask for the volume and the box too. [`Refusal::NotFound`] for a missing body.
+    /// No more than that: it is true of a stone inside out (whose volume is negative), of a flat one (whose volume is 0), and of one whose own
+    /// tolerances swallow its errors. Ask for the volume and the box too. [`Refusal::NotFound`] for a missing body.
     pub fn fit_to_saw(&self, body: u32) -> Result<bool, Refusal> {
         let [mut f, mut e, _] = self.marks();
         let mut fit = [0];
@@ -565,7 +565,7 @@ pub struct Report {
 }
 
 impl Report {
-    /// No fault, and nothing unchecked. Of a report with geometry and three samples that is what [`Model::fit_to_saw`] says, and as little.
+    /// No fault, and nothing unchecked. [`Model::fit_to_saw`] asks it of a report with geometry and three samples, and asks more besides.
     pub fn is_valid(&self) -> bool {
         self.faults.is_empty() && self.unchecked == 0
     }

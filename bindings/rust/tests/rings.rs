@@ -54,7 +54,7 @@ fn what_is_no_line_or_no_plane_is_unchecked() {
             let report = model.check_body(body, Some(3)).unwrap();
             assert!(report.faults.is_empty());
             assert_eq!(report.unchecked, usize::from(!measurable), "{curve:?} {surface:?}");
-            assert_eq!(model.fit_to_saw(body), Ok(measurable));
+            assert_eq!(report.is_valid(), measurable);
         }
     }
 }

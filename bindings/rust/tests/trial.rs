@@ -127,7 +127,7 @@ fn fin_vertices() {
     assert_eq!(model.fin_vertices(along), Err(Refusal::NotFound));
 }
 
-/// Fit to saw is no fault and nothing unchecked: an empty body is, and one inside out, a flat one, one that is no solid, and one whose
+/// Fit to saw is no fault, nothing unchecked, and a solid with a face whose shells are the body's (W-203): one inside out is, a flat one, and one whose
 /// tolerances swallow the error. The volume tells all but the last.
 #[test]
 fn fit_to_saw_and_no_more() {
@@ -135,10 +135,12 @@ fn fit_to_saw_and_no_more() {
     let empty = model.insert_body(BodyKind::Solid).unwrap();
     let region = model.insert_region(Region { body: empty, solid: false }).unwrap();
     model.append(List::RegionsOfBody, empty, region).unwrap();
-    assert_eq!(model.fit_to_saw(empty), Ok(true));
+    assert!(model.check_body(empty, Some(3)).unwrap().is_valid());
+    assert_eq!(model.fit_to_saw(empty), Ok(false));
     assert_eq!(model.body_volume(empty), Err(Refusal::Degenerate));
     model.set_body(empty, BodyKind::Wire).unwrap();
-    assert_eq!(model.fit_to_saw(empty), Ok(true));
+    assert!(model.check_body(empty, Some(3)).unwrap().is_valid());
+    assert_eq!(model.fit_to_saw(empty), Ok(false));
     assert_eq!(model.body_volume(empty), Err(Refusal::NotSolid));
 
     let (mut turned, body) = stone();
@@ -176,6 +178,33 @@ fn fit_to_saw_and_no_more() {
     corner.tolerance = Some(0.02);
     loose.set_vertex(7, corner).unwrap();
     assert_eq!(loose.fit_to_saw(body), Ok(true));
+}
+
+/// A face that one of its own shells does not list, that names the shell of another stone, or one that is missing: the report says nothing of it, and the stone is not
+/// fit to saw.
+#[test]
+fn not_fit_by_its_shells() {
+    let mut model = Model::new(LARGEST, 0.001).unwrap();
+    let body = model.insert_box([4.0, 3.0, 2.0]).unwrap();
+    let other = model.insert_box([1.0, 1.0, 1.0]).unwrap();
+    assert_eq!(model.fit_to_saw(body), Ok(true));
+    let id = model.body_faces(body).unwrap()[0];
+    let back = model.face(id).unwrap().back.unwrap();
+    let place = model.list(List::FacesOfShell, back).unwrap().iter().position(|&f| f == id).unwrap();
+    model.strike(List::FacesOfShell, back, place).unwrap();
+    let foreign = model.face(model.body_faces(other).unwrap()[0]).unwrap().back.unwrap();
+    for named in [back, foreign, 99] {
+        let mut face = model.face(id).unwrap();
+        face.back = Some(named);
+        model.set_face(id, face).unwrap();
+        assert!(model.check_body(body, Some(3)).unwrap().is_valid());
+        assert_eq!(model.fit_to_saw(body), Ok(false));
+        assert_eq!(model.fit_to_saw(other), Ok(true));
+    }
+    let mut face = model.face(id).unwrap();
+    face.back = None;
+    model.set_face(id, face).unwrap();
+    assert_eq!(model.fit_to_saw(body), Ok(true));
 }
 
 /// What a direction of length 2 does: the parameters of the edge's ends are twice as far apart, a point at a parameter lies twice as far

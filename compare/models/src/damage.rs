@@ -348,6 +348,32 @@ pub fn damage(plain: &mut Plain, random: &mut Random) -> (String, Option<usize>)
     }
 }
 
+/// A face that a shell no longer lists, and which names that shell still, another, one that is not there, or none: the checker asks of the shells that list a
+/// face, and not of those that it names.
+pub fn unlist(plain: &mut Plain, random: &mut Random) -> Option<String> {
+    let shells = plain.shells.len();
+    let id = random.below(plain.faces.len().max(1));
+    let back = !random.one_in(4);
+    let face = plain.faces.get_mut(id)?;
+    let side = if back { &mut face.back } else { &mut face.front };
+    let old = (*side)?;
+    *side = match random.below(5) {
+        0 => None,
+        1 => Some(shells + random.below(2)),
+        2 | 3 => Some(random.below(shells)),
+        _ => Some(old),
+    };
+    let new = *side;
+    plain.shells.get_mut(old)?.faces.retain(|&face| face != id);
+    if let Some(shell) = new.and_then(|shell| plain.shells.get_mut(shell))
+        && new != Some(old)
+        && random.one_in(2)
+    {
+        shell.faces.push(id);
+    }
+    Some(format!("face {id} struck from shell {old}, its {} is {new:?}", if back { "back" } else { "front" }))
+}
+
 /// Of the ids that name no record, puts some above every table.
 pub fn stray(plain: &mut Plain, random: &mut Random) {
     let used = plain.used();

@@ -67,6 +67,24 @@ pub fn made(
     })
 }
 
+/// The model with a face that a shell no longer lists (`damage::unlist`), or as it is where it has no such face.
+pub fn unlisted(made: Made, names: &Names, random: &mut Random) -> Made {
+    let mut plain = made.plain.clone();
+    let Some(what) = damage::unlist(&mut plain, random) else {
+        return made;
+    };
+    let Ok(model) = original::build(&mut plain, names) else {
+        return made;
+    };
+    let told = made.told.into_iter().chain([what]).collect();
+    Made {
+        model,
+        plain,
+        told,
+        near: made.near,
+    }
+}
+
 /// Near the ends, around the precision, and no fraction at all. The bounds are an answer's numbers.
 pub fn fraction(random: &mut Random, precision: f64, bounds: &[u64]) -> f64 {
     let length = match bounds {

@@ -140,7 +140,7 @@ impl Writer {
             let found = found.numbers;
             let faults = &found[2..];
             let sort = match (faults.len(), found[1]) {
-                (0, 0) => "fit to saw",
+                (0, 0) => "valid",
                 (0, _) => "no fault, some unchecked",
                 (_, 0) => "faults",
                 _ => "faults, some unchecked",

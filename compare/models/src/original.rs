@@ -706,23 +706,61 @@ pub fn report(
     Ok(told)
 }
 
-/// Fit to saw: the Rust's own `is_valid` of its default report, which has geometry and three samples; where 01's intervals changed that
-/// report, that of the changed one. In words, also what the Rust says there.
+/// W-203, "Fit to saw must also mean that the body is solid, that some solid region has a face, and that every shell named by a face of the body is one of that
+/// body's shells and lists the face": what of it does not hold, if something.
+fn not_whole(model: &Model, body: BodyId) -> Option<&'static str> {
+    let record = model.body(body).ok()?;
+    if record.kind != BodyKind::Solid {
+        return Some("no solid");
+    }
+    let regions: Vec<&Region> = record
+        .regions
+        .iter()
+        .filter_map(|&id| model.region(id).ok())
+        .collect();
+    let has_face = |id| model.shell(id).is_ok_and(|shell| !shell.faces.is_empty());
+    let faced = |region: &Region| region.solid && region.shells.iter().copied().any(has_face);
+    if !regions.iter().any(|region| faced(region)) {
+        return Some("no face in a solid region");
+    }
+    for id in model.body_faces(body).unwrap_or_default() {
+        let Ok(face) = model.face(id) else {
+            continue;
+        };
+        for named in [face.front, face.back].into_iter().flatten() {
+            let Ok(shell) = model.shell(named) else {
+                return Some("a face names a shell that is missing");
+            };
+            if !regions.iter().any(|region| region.shells.contains(&named)) {
+                return Some("a face names a shell of no region of the body");
+            }
+            if !shell.faces.contains(&id) {
+                return Some("a face names a shell that does not list it");
+            }
+        }
+    }
+    None
+}
+
+/// Fit to saw: the Rust's own `is_valid` of its default report, which has geometry and three samples (where 01's intervals changed that
+/// report, of the changed one), and W-203's part. In words, also what the Rust says there, and what a valid report is not fit for.
 pub fn verdict(model: &Model, names: &Names, body: usize) -> std::result::Result<Told, Why> {
     let options = CheckOptions::default();
     assert!(options.geometry && options.edge_samples == 3);
     let (answer, own) = checked(model, names, body, &options)?;
-    let fit = |fit: bool| if fit { "fit" } else { "not fit" };
-    let words = match (&answer, own) {
-        (Err(error), _) => format!("refused with {}", error.code() as u64),
-        (Ok(report), None) => fit(report.is_valid()).into(),
-        (Ok(report), Some(own)) => format!(
-            "{} by intervals and {} by hypot",
-            fit(report.is_valid()),
-            fit(own.is_valid())
-        ),
+    let lacking = not_whole(model, names.bodies[body]);
+    let fit = |report: &Report| report.is_valid() && lacking.is_none();
+    let say = |report: &Report| match (report.is_valid(), lacking) {
+        (false, _) => "not fit".into(),
+        (true, None) => "fit".into(),
+        (true, Some(what)) => format!("not fit, valid report: {what}"),
     };
-    let mut told = told(answer, |report| vec![report.is_valid().into()]);
+    let words: String = match (&answer, own) {
+        (Err(error), _) => format!("refused with {}", error.code() as u64),
+        (Ok(report), None) => say(report),
+        (Ok(report), Some(own)) => format!("{} by intervals, {} by hypot", say(report), say(&own)),
+    };
+    let mut told = told(answer, |report| vec![fit(&report).into()]);
     told.words = words;
     Ok(told)
 }

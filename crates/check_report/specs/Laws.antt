@@ -9,18 +9,30 @@ use lib.Dec.{eqb, ltb, leb}
 use lib.Ieee.{Float}
 use lib.ListN.{length, set, take, drop, take-append-drop}
 use lib.Seq.{sets, take-all, take-nil, length-take-le, drop-append-le}
-use borrow.Author.Tests.{ltb-true, ltb-false, leb-true, leb-false}
-use Rattle.geom_lines_planes.specs.Refuse.{answer}
+use borrow.Author.Tests.{ltb-true, ltb-false, leb-true, leb-false, eqb-true}
+use Rattle.geom_lines_planes.specs.Refuse.{_unless_, _then_, answer}
+use Rattle.geom_lines_planes.specs.Laws.{Cases, Gives, read-value}
+use Rattle.meaning.specs.Lists.{all, joined, firsts}
+use Rattle.meaning.specs.Model.{Model, has, shell}
+use Rattle.meaning.specs.Walks.{shellsOf, faceWalk, facesRefusal}
 use Rattle.meaning.specs.Faults as Faults
-use Rattle.meaning.specs.Faults.{Fault, Finding, faultsOf, skippedOf, reportOf, kept, counts, CheckOptions, checkRefusal, sawing, sawable}
-use Rattle.meaning_list_laws.specs.Tests.{refused-answer}
+use Rattle.meaning.specs.Faults.{Fault, Finding, faultsOf, skippedOf, reportOf, kept, counts, CheckOptions, findings, checkRefusal, sawing, wholeSolid, sawable}
+use Rattle.meaning_list_laws.specs.Tests.{refused-answer, then-zero, unless-zero}
+use Rattle.meaning_list_laws.specs.Findings.{NoFault, regions-followed, faces-exist}
+use Rattle.memory_layout.specs.Layout.{word}
 use Rattle.memory_layout.specs.Decode.{decode}
 use Rattle.memory_layout.specs.Readable.{readable}
+use Rattle.memory_layout.specs.Fit.{Lists}
+use Rattle.memory_layout.specs.Laws.{fit-of, lists-of}
 use Rattle.check_reasons.specs.declared.Tally.{Tally}
 use Rattle.check_reasons.specs.Log.{faultWords, faultsWords, Log, logOf, Noted}
 use Rattle.check_reasons.specs.Laws.{logged-report}
 use Rattle.walk_answers.specs.Calls.{reach, handed, inFront}
 use Rattle.walk_answers.specs.Decoded.{refusedBy}
+use Rattle.walk_answers.specs.Laws.{all-firsts-same, face-list, faces-refusal}
+use Rattle.walk_paths.specs.Paths.{facePath, faceList, bodyFollowed, facesThere, Faced}
+use Rattle.walk_paths.specs.Laws.{shelled-of, faced-of}
+use Rattle.walk_visits.specs.Visits.{idsOf}
 use Rattle.check_refusals.specs.Facts.{askRefusal}
 use Rattle.check_findings.specs.Findings.{nothingYet}
 use Rattle.station_answers.specs.declared.Counts.{Counts}
@@ -28,7 +40,7 @@ use Rattle.station_answers.specs.declared.Checked.{Checked}
 use Rattle.station_answers.specs.declared.Checked.the-variants as Checks
 use Rattle.station_answers.specs.declared.Sawable.the-variants as Saws
 use Rattle.check_report.specs.Calls.{asked, seenCounts, reportOn, checkNumber, checkAnswer, checkWords, fitAnswer}
-use Rattle.meaning_list_laws.specs.Lists.{drop-end}
+use Rattle.meaning_list_laws.specs.Lists.{drop-end, all-firsts}
 
 -- ---- entries put from the front on, as far as the list goes
 
@@ -124,6 +136,9 @@ quarter n = omega (arith, div-add-mod' n 4)
 
 -- ---- the call
 
+checked-cases : Cases Checks.Is Checks.Refused
+checked-cases = record { apart = λ b m e. cc; values = λ a b e. cc; numbers = λ m n e. cc }
+
 module _ (room w : List ℕ) (x : List Float) (b : ℕ) where
   pub number-told : (geometry : Bool) (samples : ℕ) (faces edges : List ℕ)
       → refusedBy (readable room w x) (reach room 3 faces && reach room 6 edges) (askRefusal (decode room w x) samples b) ≡ checkNumber room w x b (asked geometry samples) faces edges
@@ -167,13 +182,55 @@ module _ (room w : List ℕ) (x : List Float) (b : ℕ) where
         by zero q = absurd (let z : _≡_ {A = ℕ} 0 1 = cc in omega arith)
         by (suc k) q = let same : suc k ≡ n = cc in ap Saws.Refused (sym same)
 
-    pub fit-given : (c : Counts) → r ≡ Checks.Is c → Saws.Is (eqb (c .faults) 0 && eqb (c .unchecked) 0) ≡ fitAnswer room w x b faces edges
+    pub fit-given : (c : Counts) → r ≡ Checks.Is c → (v : Bool) → v ≡ (eqb (c .faults) 0 && eqb (c .unchecked) 0 && wholeSolid (decode room w x) b) → Saws.Is v ≡ fitAnswer room w x b faces edges
     unfolding checkAnswer fitAnswer
-    fit-given c e = by (checkNumber room w x b sawing faces edges) (sym given ∙ e)
+    fit-given c e v h = ap Saws.Is h ∙ by (checkNumber room w x b sawing faces edges) (sym given ∙ e)
       where
-        valid : Saws.Is (eqb (seenCounts (counts 0 (reportOn room w x b sawing)) .faults) 0 && eqb (seenCounts (counts 0 (reportOn room w x b sawing)) .unchecked) 0) ≡ Saws.Is (sawable (decode room w x) b)
+        valid : Saws.Is (eqb (seenCounts (counts 0 (reportOn room w x b sawing)) .faults) 0 && eqb (seenCounts (counts 0 (reportOn room w x b sawing)) .unchecked) 0 && wholeSolid (decode room w x) b) ≡ Saws.Is (sawable (decode room w x) b)
         valid = unfold reportOn sawable in refl
 
-        by : (k : ℕ) → answer Checks.Is Checks.Refused k (seenCounts (counts 0 (reportOn room w x b sawing))) ≡ Checks.Is c → Saws.Is (eqb (c .faults) 0 && eqb (c .unchecked) 0) ≡ answer Saws.Is Saws.Refused k (sawable (decode room w x) b)
-        by zero q = let same : seenCounts (counts 0 (reportOn room w x b sawing)) ≡ c = cc in ap (λ (y : Counts). Saws.Is (eqb (y .faults) 0 && eqb (y .unchecked) 0)) (sym same) ∙ valid
+        by : (k : ℕ) → answer Checks.Is Checks.Refused k (seenCounts (counts 0 (reportOn room w x b sawing))) ≡ Checks.Is c → Saws.Is (eqb (c .faults) 0 && eqb (c .unchecked) 0 && wholeSolid (decode room w x) b) ≡ answer Saws.Is Saws.Refused k (sawable (decode room w x) b)
+        by zero q = let same : seenCounts (counts 0 (reportOn room w x b sawing)) ≡ c = cc in ap (λ (y : Counts). Saws.Is (eqb (y .faults) 0 && eqb (y .unchecked) 0 && wholeSolid (decode room w x) b)) (sym same) ∙ valid
         by (suc k) q = absurd (let z : _≡_ {A = ℕ} 0 1 = cc in omega arith)
+
+    -- a report without a fault: what the walk of faces meets is there
+    module _ (c : Counts) (e : r ≡ Checks.Is c) (none : eqb (c .faults) 0 ≡ true) where
+      abbrev m : Model
+      m = decode room w x
+
+      read : Gives (checkNumber room w x b sawing faces edges) (seenCounts (counts 0 (reportOn room w x b sawing))) c
+      unfolding checkAnswer
+      read = read-value checked-cases _ _ c (sym given ∙ e)
+
+      tests : (readable room w x ≡ true) × (has (m .bodies) b ≡ true)
+      unfolding checkNumber checkRefusal
+      tests =
+          let a = then-zero (9 unless readable room w x) _ (read .number) in
+          let d = then-zero (8 unless reach room 3 faces && reach room 6 edges) _ (a .1) in
+          (unless-zero 8 (readable room w x) (a .0), unless-zero 1 (has (m .bodies) b) (then-zero (1 unless leb 3 255) _ (d .1) .1))
+
+      quiet : NoFault (findings m sawing b)
+      unfolding reportOn reportOf
+      quiet = ap (λ (y : Counts). y .faults) (read .value) ∙ eqb-true (c .faults) 0 none
+
+      followed : bodyFollowed room w b ≡ true
+      unfolding facesRefusal
+      followed = unless-zero 1 (bodyFollowed room w b) (sym (faces-refusal room w x b) ∙ rw (tests .1, regions-followed m sawing b quiet))
+
+      there : facesThere room w b ≡ true
+      unfolding facesThere
+      there =
+          sym (all-firsts-same (λ f. ltb f (word w 3)) (idsOf room w (facePath room w b)))
+          ∙ ap (all (λ f. ltb f (word w 3))) (sym walked)
+          ∙ all-firsts (λ f. ltb f (word w 3)) (joined (λ s. shell m s .faces) (shellsOf m b)) exist
+        where
+          walked : firsts (joined (λ s. shell m s .faces) (shellsOf m b)) ≡ firsts (idsOf room w (facePath room w b))
+          walked = unfold faceList faceWalk in face-list room w x b
+
+          exist : all (λ f. ltb f (word w 3)) (joined (λ s. shell m s .faces) (shellsOf m b)) ≡ true
+          exist = unfold decode in faces-exist m sawing b quiet
+
+      pub fit-faced : Lists room w × Faced room w b
+      fit-faced =
+          let fit = fit-of room w x (tests .0) in
+          (lists-of room w x fit, faced-of room w b (shelled-of room w b followed) there)

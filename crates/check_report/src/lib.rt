@@ -1,6 +1,7 @@
 // For callers: `check_body` of gensolid-check's lib.rs over lent memory, its faults in plain numbers, four to a fault; and `fit_to_saw` (01, "Faults").
 // specs/Calls.antt says which number, which report and which words. Inner: `check`, which asks for what the refusals have tested.
 use check_findings::body_findings;
+use check_fit::fit_if;
 use check_refusals::kept_of;
 use check_refusals::refusal;
 use memory_layout::names::EDGES;
@@ -90,7 +91,7 @@ pub fn check_body(
     Checked::Is(check(room, words, reals, nums, geometry, n, body, faces, edges))
 }
 
-// Fit to saw: geometry on, three samples, no fault and nothing unchecked.
+// Fit to saw: geometry on, three samples, no fault and nothing unchecked; and a whole solid (W-203).
 pub fn fit_to_saw(
     room: &[usize; 10],
     words: &[u32],
@@ -106,6 +107,9 @@ pub fn fit_to_saw(
     let mut none: [u32; 0] = [];
     match check_body(room, words, reals, body, true, 3, faces, edges, &mut none) {
         Checked::Refused(n) => Sawable::Refused(n),
-        Checked::Is(counts) => Sawable::Is((counts.faults == 0) & (counts.unchecked == 0)),
+        Checked::Is(counts) => {
+            let valid = (counts.faults == 0) & (counts.unchecked == 0);
+            Sawable::Is(fit_if(room, words, body, valid))
+        }
     }
 }

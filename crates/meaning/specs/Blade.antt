@@ -1,6 +1,6 @@
 -- The blade, a small model to be damaged, and models with one record changed.
 use Prim.Native.Nat.{ℕ, _^_}
-use mathlib.Core.Bool.{false}
+use mathlib.Core.Bool.{true, false}
 use mathlib.Core.List.{List, [], _∷_}
 use mathlib.Core.Option.{Option, none, some}
 use lib.Ieee.{Float, neg}
@@ -32,6 +32,28 @@ blade =
       vertices = tableOf (vertexAt (corner 0)) (vertexAt (corner 1) ∷ []);
       curves = tableOf (line (corner 0) right) [];
       surfaces = tableOf (plane (corner 0) up) [];
+    }
+
+-- ---- the wafer: the blade as a solid without a volume, its face between the void's shell 0 and the solid's shell 1. Shell 2 lists the face too and is none of the body's;
+-- the second face, which has no loop, is listed nowhere
+
+abbrev pub waferFace : Option ℕ → Option ℕ → List ℕ → Face
+waferFace f b l = record { front = f; back = b; loops = l; surface = some 0; sense = positive }
+
+abbrev pub wafer : Model
+wafer =
+    record {
+      precision = milli;
+      bodies = tableOf (record { kind = solid; regions = 0 ∷ 1 ∷ [] }) [];
+      regions = tableOf (aRegion 0 false (0 ∷ [])) (aRegion 0 true (1 ∷ []) ∷ []);
+      shells = tableOf (aShell 0 (0 ∷ [])) (aShell 1 (0 ∷ []) ∷ aShell 0 (0 ∷ []) ∷ []);
+      faces = tableOf (waferFace (some 0) (some 1) (0 ∷ [])) (waferFace none (some 1) [] ∷ []);
+      loops = blade .loops;
+      fins = blade .fins;
+      edges = blade .edges;
+      vertices = blade .vertices;
+      curves = blade .curves;
+      surfaces = blade .surfaces;
     }
 
 -- ---- a row of a table: what is asked, and what is told
@@ -121,6 +143,22 @@ loopsAre l = faceIs (some 0) none l (some 0)
 -- the blade's shell: faces, wire edges, acorn vertices
 abbrev pub shellIs : ℕ → List ℕ → List ℕ → List ℕ → Model → Model
 shellIs i f w a = withShell i (record { region = i; faces = f; wireEdges = w; acornVertices = a })
+
+-- the wafer as a sheet; its second region, second shell and face
+abbrev pub asSheet : Model → Model
+asSheet = withBody 0 (record { kind = sheet; regions = 0 ∷ 1 ∷ [] })
+
+abbrev pub allVoid : Model → Model
+allVoid = withRegion 1 (aRegion 0 false (1 ∷ []))
+
+abbrev pub solidShells : List ℕ → Model → Model
+solidShells l = withRegion 1 (aRegion 0 true l)
+
+abbrev pub solidFaces : List ℕ → Model → Model
+solidFaces l = withShell 1 (aShell 1 l)
+
+abbrev pub backIs : ℕ → Model → Model
+backIs s = withFace 0 (waferFace (some 0) (some s) (0 ∷ []))
 
 -- the start, and the end, elsewhere
 abbrev pub startAt : Point3 → Model → Model

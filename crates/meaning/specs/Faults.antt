@@ -19,11 +19,11 @@ use Rattle.geom_carriers.specs.declared.Found.the-variants.{There, Missing}
 use Rattle.geom_carriers.specs.Queries.{theLine, thePlane}
 use Rattle.geom_queries.specs.Queries.{evalRefusal, projectRefusal, distanceRefusal}
 use Rattle.geom_signs.specs.Signs.{offCurveS}
-use Rattle.meaning.specs.Lists.{run, member, joined, rotated, the, isSome, is, same}
+use Rattle.meaning.specs.Lists.{run, all, any, member, joined, rotated, listed, the, isSome, is, same}
 use Rattle.meaning.specs.Floats.{_/ᶠ_, floatOf}
 use Rattle.meaning.specs.Model.{Model, Sense, positive, negative, has, body, region, shell, face, loop, fin, edge, vertex, pointOf, curve, surface}
 use Rattle.meaning.specs.Refuse.{Answer, answered}
-use Rattle.meaning.specs.Walks.{edgeWalk, edgesRefusal, edgeVertices, endsOf, readableFin}
+use Rattle.meaning.specs.Walks.{shellsOf, faceWalk, edgeWalk, edgesRefusal, edgeVertices, endsOf, readableFin}
 use Rattle.meaning.specs.Inquire.{isSolid}
 
 -- ---- the reasons' table: "Each reason number has one fixed kind and one entity class, except 25 and 26, whose class is vertex or edge as the query was"
@@ -356,8 +356,27 @@ sawing = record { geometry = true; edgeSamples = 3 }
 abbrev pub isValid : Report → Bool
 isValid r = eqb (length (r .faults)) 0 && eqb (r .unchecked) 0
 
+-- W-203, "Fit to saw must also mean that the body is solid, that some solid region has a face, and that every shell named by a face of the body is one of that
+-- body's shells and lists the face". First "some solid region has a face": one of the shells that it lists lists a face
+abbrev pub hasFace : Model → ℕ → Bool
+hasFace m s = not (eqb (length (shell m s .faces)) 0)
+
+unfoldable pub solidFace : Model → ℕ → Bool
+solidFace m b = any (λ r. region m r .solid && any (hasFace m) (region m r .shells)) (body m b .regions)
+
+-- the shell s "is one of that body's shells and lists the face" f. A shell that is missing is none of the body's
+abbrev pub ownShell : Model → ℕ → ℕ → ℕ → Bool
+ownShell m b f s = has (m .shells) s && member s (shellsOf m b) && member f (shell m s .faces)
+
+-- "every shell named by a face": its front and its back
+unfoldable pub ownShells : Model → ℕ → ℕ → Bool
+ownShells m b f = all (ownShell m b f) (listed (face m f .front) ++ listed (face m f .back))
+
+unfoldable pub wholeSolid : Model → ℕ → Bool
+wholeSolid m b = isSolid (body m b .kind) && solidFace m b && all (ownShells m b) (faceWalk m b)
+
 unfoldable pub sawable : Model → ℕ → Bool
-sawable m b = isValid (reportOf (findings m sawing b))
+sawable m b = isValid (reportOf (findings m sawing b)) && wholeSolid m b
 
 abbrev pub fitToSaw : Model → ℕ → Answer Bool
 fitToSaw m b = answered (checkRefusal m sawing b) (sawable m b)

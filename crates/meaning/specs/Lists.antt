@@ -20,6 +20,11 @@ unfoldable pub all : (ℕ → Bool) → List ℕ → Bool
 all p [] = true
 all p (x ∷ l) = p x && all p l
 
+-- p holds of some entry
+unfoldable pub any : (ℕ → Bool) → List ℕ → Bool
+any p [] = false
+any p (x ∷ l) = p x || any p l
+
 -- every test of a list passes
 unfoldable pub every : List Bool → Bool
 every [] = true

@@ -13,9 +13,9 @@ use Rattle.meaning.specs.Refuse.{given}
 use Rattle.meaning.specs.Walks.{faceWalk, facesRefusal, edgeWalk, edgesRefusal, vertexWalk, verticesRefusal}
 use Rattle.meaning.specs.Inquire.{boxOf, sideVolume}
 use Rattle.meaning.specs.Split.{test10, onPlane, test11-fin, test13, boundsRefusal, afterSplit, modelAfter, afterAll}
-use Rattle.meaning.specs.Faults.{Finding, skipped, fault, sampleAt, curveTest, sampleTests, carried, findings, reportOf, checkRefusal, counts, fitToSaw, otherRing}
+use Rattle.meaning.specs.Faults.{Finding, skipped, fault, sampleAt, curveTest, sampleTests, carried, findings, reportOf, checkRefusal, counts, wholeSolid, fitToSaw, otherRing}
 use Rattle.meaning.specs.Stone.{at, plane, up, corner, stone, right, line, anEdge, aLoop}
-use Rattle.meaning.specs.Blade.{blade, withRegion, withShell, withLoop, withFin, withVertex, withSurface, quarter, onAxis, asSolid, edgeIs, endsAre, curveIs, finsAre, faceIs, loopsAre, shellIs, startAt, endAt, otherCurve, otherSurface, tolerantEdge, askew, room, withCurve, regionsAre}
+use Rattle.meaning.specs.Blade.{blade, withRegion, withShell, withLoop, withFin, withVertex, withSurface, quarter, onAxis, asSolid, edgeIs, endsAre, curveIs, finsAre, faceIs, loopsAre, shellIs, startAt, endAt, otherCurve, otherSurface, tolerantEdge, askew, room, withCurve, regionsAre, wafer, asSheet, allVoid, solidShells, solidFaces, backIs}
 use Rattle.meaning.specs.Computing.{computing}
 
 -- ---- walks
@@ -208,7 +208,35 @@ line-ring : otherRing (endsAre none none (withSurface 0 (line (onAxis (floatOf 0
 unfolding computing
 line-ring = refl
 
+-- ---- fit to saw
+
 -- no fault, and two checks not made
-not-fit : fitToSaw (endsAre none none (otherCurve (otherSurface blade))) 0 ≡ given false
+not-fit : fitToSaw (endsAre none none (otherCurve (otherSurface wafer))) 0 ≡ given false
 unfolding computing
 not-fit = refl
+
+-- W-203: a whole solid is fit; of a sheet, a solid without a solid region, or without a face in one, that cannot be said
+whole : wholeSolid wafer 0 ≡ true
+unfolding computing
+whole = refl
+
+a-sheet : fitToSaw (asSheet wafer) 0 ≡ given false
+unfolding computing
+a-sheet = refl
+
+void-alone : wholeSolid (allVoid wafer) 0 ≡ false
+unfolding computing
+void-alone = refl
+
+-- a face that names another body's shell, one that is missing, and one that lists another face alone
+another-bodys : wholeSolid (backIs 2 wafer) 0 ≡ false
+unfolding computing
+another-bodys = refl
+
+missing-shell : wholeSolid (backIs 9 (solidShells (1 ∷ 9 ∷ []) wafer)) 0 ≡ false
+unfolding computing
+missing-shell = refl
+
+lists-another : wholeSolid (solidFaces (1 ∷ []) wafer) 0 ≡ false
+unfolding computing
+lists-another = refl

@@ -4,6 +4,7 @@ use mathlib.Core.Path.{_≡_, refl}
 use mathlib.Core.Bool.{Bool, true, false}
 use mathlib.Core.List.{List, [], _∷_, map}
 use mathlib.Core.Option.{none, some}
+use lib.ListN.{drop}
 use lib.Ieee.{Float, nan, inf, binary64, neg, toBits}
 use Rattle.float_vectors.specs.declared.vector.Point3.{Point3}
 use Rattle.geom_lines_planes.specs.declared.tolerance.Tolerance.the-variants.{Own, Session}
@@ -11,10 +12,10 @@ use Rattle.geom_lines_planes.specs.Geometry.{effective}
 use Rattle.meaning.specs.Floats.{_/ᶠ_, floatOf}
 use Rattle.meaning.specs.Model.{positive, negative, Model, largest}
 use Rattle.meaning.specs.Refuse.{Answer, refused, given}
-use Rattle.meaning.specs.Faults.{Class, ofBody, ofRegion, ofShell, ofFace, ofLoop, ofFin, ofEdge, ofVertex, Fault, Report, sampleAt, checkBody, reportOf, findings, kept, counts, fitToSaw}
+use Rattle.meaning.specs.Faults.{Class, ofBody, ofRegion, ofShell, ofFace, ofLoop, ofFin, ofEdge, ofVertex, Fault, Report, sampleAt, checkBody, reportOf, findings, kept, counts, sawing, isValid, fitToSaw}
 use Rattle.meaning.specs.Formed.{wellFormed}
 use Rattle.meaning.specs.Stone.{milli, at, line, plane, right, up, aFin, aLoop, aShell, aRegion, stone}
-use Rattle.meaning.specs.Blade.{Row, _gives_, blade, withPrecision, withRegion, withShell, withLoop, withFin, withVertex, withCurve, withSurface, quarter, onAxis, regionsAre, asSolid, edgeIs, endsAre, curveIs, finsAre, faceIs, surfaceIs, loopsAre, shellIs, startAt, endAt, otherCurve, otherSurface, tolerantEdge, room}
+use Rattle.meaning.specs.Blade.{Row, _gives_, blade, withPrecision, withRegion, withShell, withLoop, withFin, withVertex, withCurve, withSurface, quarter, onAxis, regionsAre, asSolid, edgeIs, endsAre, curveIs, finsAre, faceIs, surfaceIs, loopsAre, shellIs, startAt, endAt, otherCurve, otherSurface, tolerantEdge, room, wafer, waferFace, withFace, asSheet, allVoid, solidFaces, backIs}
 use Rattle.meaning.specs.Computing.{computing}
 
 -- ---- reports: geometry on, one sample
@@ -162,20 +163,36 @@ calls-hold : map (λ r. called (r .input)) calls ≡ map (λ r. r .result) calls
 unfolding computing
 calls-hold = refl
 
--- ---- fit to saw: a fault, a check not made, an empty solid
+-- ---- fit to saw: the wafer; a fault, a check not made; then W-203: not solid (twice), no face in a solid region (twice), a face that names another body's shell, one that is missing, one
+-- that lists another face alone, and sides that name none
 
 abbrev verdicts : List (Row Model (Answer Bool))
 verdicts =
-    (blade gives given true)
-    ∷ (startAt (at (floatOf 0) (floatOf 1) (floatOf 0)) blade gives given false)
-    ∷ (otherSurface blade gives given false)
-    ∷ (endsAre none none (withCurve 0 (plane (onAxis (floatOf 0)) up) blade) gives given false)
-    ∷ (asSolid (withRegion 0 (aRegion 0 false []) blade) gives given true)
+    (wafer gives given true)
+    ∷ (startAt (at (floatOf 0) (floatOf 1) (floatOf 0)) wafer gives given false)
+    ∷ (otherSurface wafer gives given false)
+    ∷ (endsAre none none (withCurve 0 (plane (onAxis (floatOf 0)) up) wafer) gives given false)
+    ∷ (blade gives given false)
+    ∷ (asSheet wafer gives given false)
+    ∷ (asSolid (withRegion 0 (aRegion 0 false []) blade) gives given false)
+    ∷ (allVoid wafer gives given false)
+    ∷ (backIs 2 (solidFaces (1 ∷ []) wafer) gives given false)
+    ∷ (backIs 9 (solidFaces (1 ∷ []) wafer) gives given false)
+    ∷ (solidFaces (1 ∷ []) wafer gives given false)
+    ∷ (withFace 0 (waferFace none (some 1) (0 ∷ [])) (withShell 0 (aShell 0 []) wafer) gives given true)
     ∷ []
 
 verdicts-hold : map (λ r. fitToSaw (r .input) 0) verdicts ≡ map (λ r. r .result) verdicts
 unfolding computing
 verdicts-hold = refl
+
+-- by 01's rule alone, before W-203, the last eight were fit
+abbrev lastEight : List Model
+lastEight = drop 4 (map (λ r. r .input) verdicts)
+
+were-fit : map (λ m. isValid (reportOf (findings m sawing 0))) lastEight ≡ true ∷ true ∷ true ∷ true ∷ true ∷ true ∷ true ∷ true ∷ []
+unfolding computing
+were-fit = refl
 
 no-body-no-verdict : fitToSaw blade 1 ≡ refused 2
 unfolding computing

@@ -1,7 +1,7 @@
 -- The rows of 01's "Trial stone" marked *, one statement over a table; then more about the stone. Assumes nothing.
 use Prim.Native.Nat.{ℕ, _^_}
 use mathlib.Core.Path.{_≡_, refl}
-use mathlib.Core.Bool.{true, false}
+use mathlib.Core.Bool.{true, false, cond}
 use mathlib.Core.List.{List, [], _∷_, _++_, map}
 use lib.ListN.{length}
 use lib.Ieee.{Float, nan, binary64, toBits}
@@ -27,6 +27,7 @@ pub data Ask : Type 0 where
   box-of : Model → Ask
   split-A-at : Float → Ask
   faults-of : Model → Ask
+  fit-of : Model → Ask
   sum-of : ℕ → ℕ → Ask
 
 pub data Told : Type 0 where
@@ -45,7 +46,7 @@ abbrev lengthOf : Answer (List ℕ) → ℕ
 lengthOf (refused n) = 0
 lengthOf (given l) = length l
 
--- the three walks' lengths; the volume; the two corners; the new vertex; the reasons of the faults, geometry on; the bits of both bounds
+-- the three walks' lengths; the volume; the two corners; the new vertex; the reasons of the faults, geometry on; 1 where the body is fit to saw; the bits of both bounds
 abbrev tell : Ask → Told
 tell (walks-of m) = numbers (lengthOf (bodyFaces m 0) ∷ lengthOf (bodyEdges m 0) ∷ lengthOf (bodyVertices m 0) ∷ [])
 tell (volume-of m) = told (λ v. floats (v ∷ [])) (bodyVolume m 0)
@@ -53,6 +54,7 @@ tell (box-of m) = told (λ b. floats (coordinates (b .min) ++ coordinates (b .ma
 tell (split-A-at t) =
     told (λ s. floats (coordinates (modelAfter largest stone 0 t .vertices .slot (s .vertex) .point))) (splitLineEdge largest stone 0 t)
 tell (faults-of m) = told (λ r. numbers (map (λ f. f .reason) (r .faults))) (checkBody m sawing 0)
+tell (fit-of m) = told (λ v. numbers (cond v 1 0 ∷ [])) (fitToSaw m 0)
 tell (sum-of a b) = let s = addI (pointI (floatOf a)) (pointI (floatOf b)) in numbers (toBits binary64 (s .lo) ∷ toBits binary64 (s .hi) ∷ [])
 
 -- ---- 01's rows
@@ -83,6 +85,7 @@ rows =
     ∷ (faults-of finStruck gives numbers (18 ∷ []))
     ∷ (faults-of hollow gives numbers [])
     ∷ (volume-of hollow gives refusal 4)
+    ∷ (fit-of hollow gives numbers (0 ∷ []))
     ∷ (sum-of 1 2 gives numbers (0x4007_ffff_ffff_ffff ∷ 0x4008_0000_0000_0001 ∷ []))
     ∷ []
 

@@ -8,13 +8,14 @@ use lib.ListN.{length}
 use lib.Ieee.{Float}
 use Rattle.interval_arithmetic.specs.Ops.{zeroF}
 use Rattle.geom_lines_planes.specs.Refuse.{_unless_, _then_}
-use Rattle.meaning.specs.Model.{Table, has, pointOf}
+use Rattle.meaning.specs.Model.{Model, Table, has, pointOf}
 use Rattle.meaning.specs.Refuse.{lookup}
 use Rattle.meaning.specs.Walks.{faceWalk, facesRefusal, bodyFaces, edgeWalk, edgesRefusal, bodyEdges, vertexWalk, verticesRefusal, bodyVertices, readableFin, endsOf, finVertices}
 use Rattle.meaning.specs.Inquire.{boxOf, boxRefusal, bodyBoundingBox, solidSides, sumVolumes, volumeRefusal, bodyVolume}
 use Rattle.meaning.specs.Split as Split
 use Rattle.meaning.specs.Split.{lo, hi, boundsRefusal, edgeParameterBounds, splitRefusal, splitLineEdge}
-use Rattle.meaning.specs.Faults.{CheckOptions, reportOf, findings, checkRefusal, checkBody, kept, counts, sawing, isValid, sawable, fitToSaw}
+use Rattle.meaning.specs.Faults.{CheckOptions, reportOf, findings, checkRefusal, checkBody, kept, counts, sawing, isValid, wholeSolid, sawable, fitToSaw}
+use Rattle.meaning_list_laws.specs.Tests.{and-both}
 use Rattle.memory_layout.specs.Names.{FACES, EDGES, VERTICES}
 use Rattle.memory_layout.specs.Decode.{decode}
 use Rattle.memory_layout.specs.Readable.{readable}
@@ -190,7 +191,7 @@ module _ (room w : List ℕ) (x : List Float) where
           ∙ behind-two (λ l. l) (λ _. []) (λ r. faultsWords (kept (length nums / 4) r)) (9 unless readable room w x) (8 unless reach room FACES faceMarks && reach room EDGES edgeMarks)
           (checkRefusal (decode room w x) o b) r)
 
-      -- ---- fit to saw, and that it is a report with geometry on, three samples, no fault and `unchecked` 0
+      -- ---- fit to saw, and that it is a report with geometry on, three samples, no fault and `unchecked` 0, of a whole solid (W-203)
 
       pub fit-is : fitAnswer room w x b faceMarks edgeMarks
           ≡ shown Saws.Is Saws.Refused (9 unless readable room w x then 8 unless reach room FACES faceMarks && reach room EDGES edgeMarks else fitToSaw (decode room w x) b)
@@ -200,9 +201,14 @@ module _ (room w : List ℕ) (x : List Float) where
           (sawable (decode room w x) b)
 
       pub fit-by-report : fitAnswer room w x b faceMarks edgeMarks
-          ≡ shown (λ r. Saws.Is (isValid r)) Saws.Refused
+          ≡ shown (λ r. Saws.Is (isValid r && wholeSolid (decode room w x) b)) Saws.Refused
           (9 unless readable room w x then 8 unless reach room FACES faceMarks && reach room EDGES edgeMarks else checkBody (decode room w x) (asked true 3) b)
       unfolding fitAnswer checkNumber sawable
       fit-by-report =
-          behind-two Saws.Is Saws.Refused isValid (9 unless readable room w x) (8 unless reach room FACES faceMarks && reach room EDGES edgeMarks) (checkRefusal (decode room w x) sawing b)
+          behind-two Saws.Is Saws.Refused (λ r. isValid r && wholeSolid (decode room w x) b) (9 unless readable room w x) (8 unless reach room FACES faceMarks && reach room EDGES edgeMarks) (checkRefusal (decode room w x) sawing b)
           (reportOf (findings (decode room w x) sawing b))
+
+-- whatever is fit to saw was fit by 01's rule alone, before W-203
+pub fit-was-fit : (m : Model) (b : ℕ) → sawable m b ≡ true → isValid (reportOf (findings m sawing b)) ≡ true
+unfolding sawable
+fit-was-fit m b h = and-both (isValid (reportOf (findings m sawing b))) (wholeSolid m b) h .0

@@ -11,5 +11,6 @@ pub mod Doubled
 pub mod Walked
 pub mod Gained
 pub mod Report
+pub mod Whole
 pub mod Statements
 pub mod Shut

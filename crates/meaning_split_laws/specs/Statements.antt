@@ -8,7 +8,8 @@ use lib.ListN.{getD}
 use lib.Ieee.{Float}
 use Rattle.meaning.specs.Model.{Model, shell, Limits}
 use Rattle.meaning.specs.Refuse.{refused, given}
-use Rattle.meaning.specs.Split.{splitRefusal, EdgeSplit, splitLineEdge, modelAfter, Cut, afterAll}
+use Rattle.meaning.specs.Split.{splitRefusal, EdgeSplit, splitLineEdge, afterSplit, modelAfter, Cut, afterAll}
+use Rattle.meaning.specs.Faults.{wholeSolid}
 use Rattle.meaning.specs.Formed.{WellFormed, wellFormed, topologicalReport, emptyReport, hasEdge}
 use Rattle.meaning_split_laws.specs.Terms.{struckFrom, itself, splitEdges, Restored, Walked, OneMore, SameWalks, eulerNumber}
 use Rattle.meaning_split_laws.specs.Decided.{decided, facts-pass}
@@ -18,6 +19,7 @@ use Rattle.meaning_split_laws.specs.Refusals.{refused-where, accepted-wh
 use Rattle.meaning_split_laws.specs.Struck.{splits-restore, carriers-kept, restored-whole}
 use Rattle.meaning_split_laws.specs.Gained.{walked, split-adds-one, new-wire-after, split-leaves-others, euler-kept}
 use Rattle.meaning_split_laws.specs.Report.{reports-kept}
+use Rattle.meaning_split_laws.specs.Whole.{whole-kept, all-whole-kept}
 
 -- 1. "After any sequence of splits, accepted or refused, it is still well formed"
 pub stays-well-formed : (x : Limits) (m : Model) (l : List Cut) → WellFormed x m → WellFormed x (afterAll x m l)
@@ -31,6 +33,13 @@ well-formed-is-tested x m = (decided x m, facts-pass x m)
 pub empty-report-stays : (x : Limits) (m : Model) (l : List Cut) → WellFormed x m → (b : ℕ) → b < m .bodies .used
     → emptyReport (topologicalReport m b) ≡ true → emptyReport (topologicalReport (afterAll x m l) b) ≡ true
 empty-report-stays = reports-kept
+
+-- (W-203, what fit to saw asks of a body beside its report: the same behind an accepted split, and behind any sequence)
+pub whole-solid-stays : (m : Model) (e : ℕ) (t : Float) (b : ℕ) → wholeSolid (afterSplit m e t) b ≡ wholeSolid m b
+whole-solid-stays = whole-kept
+
+pub all-whole-solid-stays : (x : Limits) (m : Model) (l : List Cut) (b : ℕ) → wholeSolid (afterAll x m l) b ≡ wholeSolid m b
+all-whole-solid-stays = all-whole-kept
 
 -- 3. "An accepted split gives each body that has the edge exactly one more edge and vertex", its faces the same, and leaves the walks of every other body
 -- as they were (`OneMore`, `SameWalks`: Terms.antt; no walk of a well-formed model is refused)

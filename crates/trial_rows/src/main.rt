@@ -1,6 +1,7 @@
 // Program: the rows of 01's table 'Trial stone', asked of the code and printed: a float as its bits, a refusal as its number.
 use check_fault_list::Fault;
 use check_report::check_body;
+use check_report::fit_to_saw;
 use edit_lists::strike_entry;
 use float_vectors::vector::Point3;
 use inquire_box::body_bounding_box;
@@ -15,6 +16,7 @@ use replay_digits::bits_of;
 use split_edge::split_line_edge;
 use station_answers::BoxFound;
 use station_answers::Checked;
+use station_answers::Sawable;
 use station_answers::Split;
 use station_answers::Volume;
 use trial_faults::Kept;
@@ -252,6 +254,26 @@ fn report(words: &[u32; 8377], reals: &[f64; 158]) {
     io::write_all(1, b"\n");
 }
 
+fn print_verdict(answer: Sawable) {
+    match answer {
+        Sawable::Is(fit) => {
+            if fit {
+                io::write_all(1, b"fit");
+            } else {
+                io::write_all(1, b"not fit");
+            }
+        }
+        Sawable::Refused(n) => print_refusal(n),
+    }
+}
+
+fn verdict(words: &[u32; 8377], reals: &[f64; 158]) {
+    let mut marks = [0u8; 6];
+    let mut seen = [0u8; 13];
+    print_verdict(fit_to_saw(&ROOM, &words[..], &reals[..], 0, &mut marks, &mut seen));
+    io::write_all(1, b"\n");
+}
+
 fn sum() {
     let s = Interval::point(1.0).add(Interval::point(2.0));
     io::write_all(1, b"1 + 2:");
@@ -293,5 +315,7 @@ fn main() {
     report(&words, &reals);
     io::write_all(1, b"a void region only; ");
     volume(&words, &reals);
+    io::write_all(1, b"a void region only; ");
+    verdict(&words, &reals);
     sum();
 }

@@ -6,12 +6,13 @@ use std::env;
 use std::process::ExitCode;
 
 use calls::layout::{LARGEST, LISTS, Lent};
+use calls::spoil::spoil;
 use calls::tally::Tally;
 use gensolid_topo::Model;
 use models::original::{self, Names};
 use models::plain::{Carrier, Plain};
 use models::random::Random;
-use models::{Made, Sort, fraction, made};
+use models::{Made, Sort, fraction, made, unlisted};
 
 /// What a wrong station is, and what it makes of a right answer: of a split, with the memory before and
 /// behind it; of a box or a volume; of a report and the number of its faults; of a verdict about a body.
@@ -39,6 +40,40 @@ fn fit_by(
     }
 }
 
+/// W-203's questions, off the lent words: is the body solid, has one of its regions a face (the solid ones alone, or all), is each shell that a face names one of the
+/// body's, and does it list the face? A wrong station leaves one out.
+fn whole(lent: &Lent, body: usize, solid_alone: bool) -> [bool; 4] {
+    let list = |j, i: u32| lent.words[list_at(lent, j, i as usize)].to_vec();
+    let regions = list(0, body as u32);
+    let shells: Vec<u32> = regions.iter().flat_map(|&r| list(1, r)).collect();
+    let solid = |&r: &u32| !solid_alone || lent.words[lent.word_at(1, r as usize) + 1] != 0;
+    let faced = regions.iter().copied().filter(|r| solid(r)).flat_map(|r| list(1, r));
+    let faced = faced.into_iter().any(|s| !list(2, s).is_empty());
+    let faces: Vec<u32> = shells.iter().flat_map(|&s| list(2, s)).collect();
+    let sides = faces.iter().flat_map(|&f| {
+        let at = lent.word_at(3, f as usize);
+        [at, at + 2].into_iter().filter(|&at| lent.words[at] != 0).map(move |at| (f, at + 1))
+    });
+    let sides: Vec<(u32, u32)> = sides.map(|(f, at)| (f, lent.words[at])).collect();
+    let lists = |f: u32, s: u32| s < lent.words[2] && list(2, s).contains(&f);
+    [
+        lent.words[lent.word_at(0, body)] == 3,
+        faced,
+        sides.iter().all(|(_, s)| shells.contains(s)),
+        sides.iter().all(|&(f, s)| lists(f, s)),
+    ]
+}
+
+/// What a station would say that leaves one of those questions out, where the report is valid.
+fn fit_without(lent: &Lent, body: usize, left_out: usize) -> Option<Vec<u64>> {
+    fit_by(lent, body, (true, 3), |faults, unchecked| faults == 0 && unchecked == 0)
+        .filter(|given| given[1] == 1)
+        .map(|_| {
+            let asked = whole(lent, body, left_out != 4);
+            vec![0, (0..4).all(|k| k == left_out || asked[k]).into()]
+        })
+}
+
 /// List j of record i, in the words.
 fn list_at(lent: &Lent, j: usize, i: usize) -> std::ops::Range<usize> {
     let (table, place, ..) = LISTS[j];
@@ -56,7 +91,7 @@ fn turned(before: &Lent, edge: usize) -> Vec<(u32, u32)> {
     fins.iter().copied().zip(new).filter(negative).collect()
 }
 
-const WRONGS: [Wrong; 22] = [
+const WRONGS: [Wrong; 28] = [
     ("puts every new fin after the old one", How::Split(|before, lent, edge, given| {
         for (old, new) in turned(before, edge) {
             let owner = before.words[before.word_at(5, old as usize)] as usize;
@@ -154,6 +189,14 @@ const WRONGS: [Wrong; 22] = [
     ("finds fit to saw what has one fault", How::Fit(|lent, body, _| {
         fit_by(lent, body, (true, 3), |faults, unchecked| faults <= 1 && unchecked == 0)
     })),
+    ("finds fit to saw by the report alone", How::Fit(|lent, body, _| {
+        fit_by(lent, body, (true, 3), |faults, unchecked| faults == 0 && unchecked == 0)
+    })),
+    ("finds fit to saw what is no solid", How::Fit(|lent, body, _| fit_without(lent, body, 0))),
+    ("finds fit to saw a solid without a face", How::Fit(|lent, body, _| fit_without(lent, body, 1))),
+    ("finds fit to saw a face with another body's shell", How::Fit(|lent, body, _| fit_without(lent, body, 2))),
+    ("finds fit to saw a face that its shell does not list", How::Fit(|lent, body, _| fit_without(lent, body, 3))),
+    ("finds fit to saw a face in the void alone", How::Fit(|lent, body, _| fit_without(lent, body, 4))),
 ];
 
 /// Capacities for a model: at times just what it has, mostly more.
@@ -401,6 +444,17 @@ fn reports(
         }
         tally.same("verdicts", &told.numbers, &given, || format!("body {body}"));
     }
+    // Garbage: 9, whatever is asked. A room above the largest asks for more marks than there can be.
+    let mut spoiled = lent.clone();
+    let what = spoil(&mut spoiled, random);
+    if !spoiled.readable() && spoiled.room.iter().zip(LARGEST).all(|(&n, most)| n <= most) {
+        let body = random.below(made.plain.bodies.len() + 1);
+        let mut given = spoiled.fit(body, random.bits() as u8);
+        if let Some(How::Fit(wrong)) = wrong {
+            given = wrong(&spoiled, body, &given).unwrap_or(given);
+        }
+        tally.same("verdicts of garbage", &vec![9], &given, || what.into());
+    }
     // 01's limit: 1, and before 2.
     let body = random.below(made.plain.bodies.len() + 1);
     let samples = random.pick(&[256, 1 << 20, usize::MAX]);
@@ -418,9 +472,13 @@ fn compared(
     [seed, number]: [u64; 2],
     wrong: Option<How>,
 ) {
-    let Some(made) = made(names, Sort::Several, seed, number, None) else {
+    let Some(mut made) = made(names, Sort::Several, seed, number, None) else {
         return;
     };
+    let mut random = Random::new(seed, number, 500);
+    if what == "reports" && random.one_in(3) {
+        made = unlisted(made, names, &mut random);
+    }
     tally.begin(format!(
         "model {number} of seed {seed}: {}",
         made.told.join("; ")
