@@ -2,25 +2,25 @@
 use Prim.Native.Nat.{ℕ, zero, suc, _+_, _*_, _<_}
 use native.Mathlib.Omega.{arith}
 use mathlib.Core.Path.{_≡_, refl, sym, ap, ap₂, _∙_, fun-ext}
-use mathlib.Core.Bool.{Bool, true, false, not, cond, _&&_, _||_}
-use mathlib.Core.List.{List, [], _∷_, _++_, map}
+use mathlib.Core.Bool.{Bool, true, false, _&&_, _||_}
+use mathlib.Core.List.{List, [], _∷_, _++_}
 use mathlib.Core.Option.{Option, none, some}
 use lib.Dec.{eqb, ltb}
 use lib.ListN.{length, getD, take}
 use lib.Ieee.{Float}
 use borrow.Author.Tests.{eqb-true, eqb-false, eq-eqb, ne-eqb}
 use Rattle.meaning.specs.Lists.{all, any, member, joined, listed, firsts}
-use Rattle.meaning.specs.Model.{Model, has, body, region, shell, face}
+use Rattle.meaning.specs.Model.{Model, body, shell, face}
 use Rattle.meaning.specs.Walks.{shellsOf, faceWalk}
 use Rattle.meaning.specs.Inquire.{isSolid}
-use Rattle.meaning.specs.Faults.{hasFace, solidFace, ownShell, ownShells, wholeSolid}
-use Rattle.meaning_list_laws.specs.Tests.{and-both, and-true, and-assoc}
+use Rattle.meaning.specs.Faults.{solidFace, ownShell, ownShells, wholeSolid}
+use Rattle.meaning_list_laws.specs.Tests.{and-both, and-true, and-assoc, or-false}
 use Rattle.meaning_list_laws.specs.Lists.{all-both}
 use Rattle.memory_layout.specs.Layout.{word, wordsOf}
-use Rattle.memory_layout.specs.Decode.{decode, kindOf, maybeAt}
+use Rattle.memory_layout.specs.Decode.{decode, kindOf}
 use Rattle.memory_layout.specs.Entries.{listOf}
 use Rattle.walk_marks.specs.Laws.{take-more}
-use Rattle.walk_sources.specs.Sources.{sourced, partOf}
+use Rattle.walk_sources.specs.Sources.{sourced}
 use Rattle.walk_visits.specs.Visits.{idsOf}
 use Rattle.walk_paths.specs.Paths.{shellList, facePath, faceList}
 use Rattle.walk_answers.specs.Laws.{all-firsts-same, face-list}
@@ -30,11 +30,7 @@ use Rattle.check_fit.specs.Whole.{facedIn, solidIn, ownIn, sideIn, ownsI
 
 any-snoc : (p : ℕ → Bool) (l : List ℕ) (y : ℕ) → any p (l ++ (y ∷ [])) ≡ (any p l || p y)
 unfolding any
-any-snoc p [] y = go (p y)
-  where
-    go : (b : Bool) → (b || false) ≡ b
-    go true = refl
-    go false = refl
+any-snoc p [] y = or-false (p y)
 any-snoc p (z ∷ l) y = ap (λ b. p z || b) (any-snoc p l y) ∙ go (p z) (any p l) (p y)
   where
     go : (a b c : Bool) → (a || (b || c)) ≡ ((a || b) || c)

@@ -47,6 +47,6 @@ module _ (room w : List ℕ) (x : List Float) (b : ℕ) where
   unfoldable pub checkWords : CheckOptions → List ℕ → List ℕ → List ℕ → List ℕ
   checkWords o faceMarks edgeMarks nums = inFront (handed (checkNumber o faceMarks edgeMarks) (faultsWords (kept (length nums / 4) (reportOn o)))) nums
 
-  -- 01, "Fit to saw (added): geometry on, three samples, no fault, `unchecked` 0"
+  -- 01, "Fit to saw (added): geometry on, three samples, no fault, `unchecked` 0"; W-203, "must also mean that the body is solid, that some solid region has a face, .."
   unfoldable pub fitAnswer : List ℕ → List ℕ → Sawable
   fitAnswer faceMarks edgeMarks = answer Saws.Is Saws.Refused (checkNumber sawing faceMarks edgeMarks) (sawable (decode room w x) b)

@@ -1,5 +1,5 @@
 -- `check_fit::own_sides` meets its contract. Assumes nothing.
-use mathlib.Core.Path.{_≡_, ap, ap₂, _∙_}
+use mathlib.Core.Path.{ap, ap₂, _∙_}
 use mathlib.Core.Bool.{_&&_}
 use mathlib.Core.List.{[]}
 use borrow.Author.Needs.{needs}

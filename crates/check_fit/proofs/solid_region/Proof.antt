@@ -1,6 +1,6 @@
 -- `check_fit::solid_region` meets its contract. Assumes nothing.
 use native.Mathlib.Omega.{arith}
-use mathlib.Core.Path.{_≡_, ap, ap₂, _∙_}
+use mathlib.Core.Path.{ap, ap₂, _∙_}
 use mathlib.Core.Bool.{not, _&&_}
 use lib.Dec.{eqb}
 use lib.ListN.{length}
