@@ -1,8 +1,9 @@
-/* How much stack each call takes: `stack` prints the bytes, `stack LIMIT` fails where a call takes more. Each is made on a stack that was painted, and the
+/* How much stack each call takes: `stack` prints the bytes, `stack LIMIT [CALL LIMIT]..` fails where a call takes more. Each is made on a stack that was painted, and the
  * lowest byte that has changed tells. No frame depends on the model, and on a whole trial stone each call goes its deepest way. The arguments that
  * fit into no register and what is left of this program's own frame count with it, some hundred bytes. */
 #define _POSIX_C_SOURCE 200809L
 #include <pthread.h>
+#include <string.h>
 
 #include "stone.h"
 
@@ -95,9 +96,18 @@ static void *taken(void *arg)
     return NULL;
 }
 
+/* The limit of a call: its own where one is named, else that of all. */
+static size_t limit_of(const char *name, int argc, char **argv)
+{
+    for (int i = 2; i + 1 < argc; i += 2)
+        if (strcmp(argv[i], name) == 0)
+            return strtoul(argv[i + 1], NULL, 10);
+    return argc > 1 ? strtoul(argv[1], NULL, 10) : SIZE;
+}
+
 int main(int argc, char **argv)
 {
-    size_t limit = argc > 1 ? strtoul(argv[1], NULL, 10) : SIZE, most = 0;
+    int failed = 0;
     for (size_t i = 0; i < sizeof calls / sizeof *calls; i++) {
         lay_out();
         size_t k = i;
@@ -108,11 +118,13 @@ int main(int argc, char **argv)
         if (pthread_create(&thread, &attributes, taken, &k) != 0 || pthread_join(thread, NULL) != 0)
             return 2;
         clear();
-        most = k > most ? k : most;
-        if (argc == 1 || k > limit)
+        size_t limit = limit_of(calls[i].name, argc, argv);
+        if (argc == 1)
             printf("%7zu %s\n", k, calls[i].name);
+        if (k > limit) {
+            printf("%s takes %zu bytes of stack, more than %zu\n", calls[i].name, k, limit);
+            failed = 1;
+        }
     }
-    if (most > limit)
-        printf("a call takes more than %zu bytes of stack\n", limit);
-    return most > limit;
+    return failed;
 }

@@ -65,7 +65,7 @@ pub fn body_bounding_box(
     clear(faces);
     clear(edges);
     clear(vertices);
-    let n = polyhedral_refusal(room, words, reals, enough, body, faces);
+    let n = polyhedral_refusal(room, words, reals, enough, body);
     if n != 0 {
         return BoxFound::Refused(n);
     }

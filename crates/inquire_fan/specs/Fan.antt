@@ -1,8 +1,6 @@
--- Points as floats, three for each, and a triangle of the fan. No reader of a public promise needs this file. Definitions only.
-use Prim.Native.Nat.{ℕ, _+_, _*_}
+-- The points of a fan, and one of its triangles. No reader of a public promise needs this file. Definitions only.
 use mathlib.Core.Bool.{Bool, cond}
-use mathlib.Core.List.{List, [], _∷_, reverse}
-use lib.ListN.{set}
+use mathlib.Core.List.{List, reverse}
 use lib.Ieee.{Float}
 use Rattle.interval_arithmetic.specs.Ops.{zeroF}
 use Rattle.float_vectors.specs.declared.vector.Point3.{Point3}
@@ -11,16 +9,6 @@ use Rattle.meaning.specs.Floats.{toVec}
 
 abbrev pub originP : Point3
 originP = record { x = zeroF; y = zeroF; z = zeroF }
-
-unfoldable pub pointsOf : List Float → List Point3
-pointsOf [] = []
-pointsOf (x ∷ []) = []
-pointsOf (x ∷ y ∷ []) = []
-pointsOf (x ∷ y ∷ z ∷ l) = record { x = x; y = y; z = z } ∷ pointsOf l
-
--- p put as point k
-unfoldable pub withPoint : List Float → ℕ → Point3 → List Float
-withPoint d k p = set (set (set d (3 * k) (p .x)) (3 * k + 1) (p .y)) (3 * k + 2) (p .z)
 
 -- 01, "a front side reverses the points"
 unfoldable pub turned : Bool → List Point3 → List Point3

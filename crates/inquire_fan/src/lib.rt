@@ -1,37 +1,20 @@
-// Inner: the fan of a polygon (`polygon_volume` of inquire.rs). Its points stand in floats, three for each.
+// Inner: the fan of a loop (`polygon_volume` of inquire.rs). Its points are where the fins start; of them the first and two others are held
+// (W-204), and for a front side the fins are walked backwards.
 use float_vectors::vector::Point3;
 use float_vectors::vector::Vec3;
+use inquire_fin_starts::start_point;
 ghost use mathlib.Core.Path.{_≡_};
 ghost use mathlib.Core.Bool.{cond};
-ghost use Prim.Native.Nat.{_+_, _*_, _-_, _<_, _≤_};
+ghost use mathlib.Core.List.{map};
+ghost use Prim.Native.Nat.{_-_, _<_, _≤_};
 ghost use lib.ListN.{length, getD};
 ghost use Rattle.meaning.specs.Inquire.{polygonVolume};
-ghost use Rattle.inquire_fan.specs.Fan.{originP, wedge, pointsOf, withPoint, turned};
+ghost use Rattle.memory_layout.specs.Decode.{decode};
+ghost use Rattle.memory_layout.specs.Fit.{Fit};
+ghost use Rattle.inquire_fin_starts.specs.Starts.{startPoint, Rim};
+ghost use Rattle.inquire_fan.specs.Fan.{originP, wedge, turned};
 
-// Puts p as point k.
-pub fn put_point(points: &mut [f64], k: usize, p: Point3)
-    requires { ⌜ 3 * k + 2 < length (now points) ⌝ }
-    requires { ⌜ k < 1024 ⌝ }
-    ensures { λ _. ⌜ now (points .exit) ≡ withPoint (now (points .entry)) k p ⌝ }
-{
-    points[3 * k] = p.x;
-    points[3 * k + 1] = p.y;
-    points[3 * k + 2] = p.z;
-}
-
-// Point i.
-fn point_at(points: &[f64], i: usize) -> Point3
-    requires { ⌜ (3 * i + 2 < length (now points)) × (i < 1024) ⌝ }
-    ensures { λ r. ⌜ r ≡ getD (pointsOf (now (points .entry))) i originP ⌝ }
-{
-    Point3 {
-        x: points[3 * i],
-        y: points[3 * i + 1],
-        z: points[3 * i + 2],
-    }
-}
-
-// Where point k of n stands, counted from the front or from the end.
+// Which of n fins has corner k, counted from the first or from the last.
 fn place(n: usize, back: bool, k: usize) -> usize
     requires { ⌜ k < n ⌝ }
     ensures { λ r. ⌜ (r ≡ cond back (n - 1 - k) k) × (r < n) ⌝ }
@@ -42,12 +25,22 @@ fn place(n: usize, back: bool, k: usize) -> usize
     k
 }
 
-// Point k of n, counted so.
-fn corner(points: &[f64], n: usize, back: bool, k: usize) -> Point3
-    requires { ⌜ (k < n) × (length (now points) ≡ 3 * n) × (n ≤ 1024) ⌝ }
-    ensures { λ r. ⌜ r ≡ getD (turned back (pointsOf (now (points .entry)))) k originP ⌝ }
+// Corner k, counted so.
+pub fn corner(
+    room: &[usize; 10],
+    words: &[u32],
+    reals: &[f64],
+    fins: &[u32],
+    back: bool,
+    k: usize,
+) -> Point3
+    requires { ⌜ Fit (now room) (now words) (now reals) ⌝ }
+    requires { ⌜ Rim (now room) (now words) (now fins) ⌝ }
+    requires { ⌜ k < length (now fins) ⌝ }
+    ensures { λ r. ⌜ r ≡ getD (turned back (map (startPoint (decode (now (room .entry)) (now (words .entry)) (now (reals .entry)))) (now (fins .entry)))) k originP ⌝ }
 {
-    point_at(points, place(n, back, k))
+    let i = place(fins.len(), back, k);
+    start_point(room, words, reals, fins[i] as usize)
 }
 
 // One triangle of the fan from o: o·((p - o) × (q - o)).
@@ -64,21 +57,27 @@ fn wedge(o: Point3, p: Point3, q: Point3) -> f64
     way.dot(a.cross(b))
 }
 
-// The signed volume of the cone from the origin to the polygon, its points taken from the front or from the end.
-pub fn polygon_volume(points: &[f64], n: usize, back: bool) -> f64
-    requires { ⌜ (length (now points) ≡ 3 * n) × (n ≤ 1024) ⌝ }
-    ensures { λ r. ⌜ r ≡ polygonVolume (turned back (pointsOf (now (points .entry)))) ⌝ }
+// The signed volume of the cone from the origin to the polygon of the corners.
+pub fn polygon_volume(
+    room: &[usize; 10],
+    words: &[u32],
+    reals: &[f64],
+    fins: &[u32],
+    back: bool,
+) -> f64
+    requires { ⌜ Fit (now room) (now words) (now reals) ⌝ }
+    requires { ⌜ Rim (now room) (now words) (now fins) ⌝ }
+    requires { ⌜ (3 ≤ length (now fins)) × (length (now fins) ≤ 1024) ⌝ }
+    ensures { λ r. ⌜ r ≡ polygonVolume (turned back (map (startPoint (decode (now (room .entry)) (now (words .entry)) (now (reals .entry)))) (now (fins .entry)))) ⌝ }
 {
-    if n == 0 {
-        return 0.0;
-    }
-    let o = corner(points, n, back, 0);
+    let o = corner(room, words, reals, fins, back, 0);
+    let mut p = corner(room, words, reals, fins, back, 1);
     let mut acc = 0.0;
     let mut k = 1;
-    while k + 1 < n {
-        let p = corner(points, n, back, k);
-        let q = corner(points, n, back, k + 1);
+    while k + 1 < fins.len() {
+        let q = corner(room, words, reals, fins, back, k + 1);
         acc = acc + wedge(o, p, q);
+        p = q;
         k += 1;
     }
     acc / 6.0

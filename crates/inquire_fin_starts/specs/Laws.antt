@@ -1,16 +1,15 @@
 -- The starts of fins off the lent words are those of the model. Assumes nothing.
-use Prim.Native.Nat.{ℕ, zero, suc, _+_, _*_, _<_}
+use Prim.Native.Nat.{ℕ, zero, suc, _+_, _<_}
 use native.Mathlib.Omega.{arith}
 use native.Mathlib.Numerals.{add-one}
 use mathlib.Core.Path.{_≡_, refl, sym, ap, _∙_}
 use mathlib.Core.Bool.{Bool, true, false, not, cond}
-use mathlib.Core.List.{List, [], _∷_, _++_, map}
+use mathlib.Core.List.{List, [], _∷_}
 use mathlib.Core.Option.{none, some}
 use lib.Dec.{eqb, ltb}
-use lib.ListN.{length, getD, take}
+use lib.ListN.{length, getD}
 use lib.Ieee.{Float}
 use borrow.Author.Tests.{ltb-true}
-use Rattle.float_vectors.specs.declared.vector.Point3.{Point3}
 use Rattle.geom_lines_planes.specs.Refuse.{_unless_, _then_}
 use Rattle.meaning.specs.Lists.{the, isSome}
 use Rattle.meaning.specs.Model.{Edge, positive, negative, edge, pointOf}
@@ -21,10 +20,8 @@ use Rattle.meaning_list_laws.specs.Tests.{and-both, then-zero, unless-zero, the
 use Rattle.memory_layout.specs.Layout.{word, wordsOf}
 use Rattle.memory_layout.specs.Decode.{flagAt, maybeAt, decode}
 use Rattle.walk_sources.specs.Sources.{finEdge}
-use Rattle.inquire_fan.specs.Fan.{pointsOf, withPoint}
-use Rattle.inquire_fan.specs.Laws.{point-more}
-use Rattle.walk_marks.specs.Laws.{map-turn}
-use Rattle.inquire_fin_starts.specs.Starts.{startPlace, endNumber, startNumber, startId, startPoint, finWhole, Whole}
+use Rattle.walk_marks.specs.Laws.{all-nth}
+use Rattle.inquire_fin_starts.specs.Starts.{startPlace, endNumber, startNumber, startId, startPoint, finWhole, Whole, Rim}
 
 pub whole-of : (room w : List ℕ) (i : ℕ) → finWhole room w i ≡ true → Whole room w i
 unfolding finWhole
@@ -80,22 +77,16 @@ module _ (room w : List ℕ) (x : List Float) (i : ℕ) where
 -- ---- all starts
 
 -- none of the starts is refused
-pub first-at : (f : ℕ → ℕ) (l : List ℕ) (k : ℕ) → firstOf f l ≡ 0 → k < length l → f (getD l k 0) ≡ 0
+first-at : (f : ℕ → ℕ) (l : List ℕ) (k : ℕ) → firstOf f l ≡ 0 → k < length l → f (getD l k 0) ≡ 0
 unfolding firstOf
 first-at f [] k e h = absurd (omega arith)
 first-at f (y ∷ l) zero e h = then-zero (f y) (firstOf f l) e .0
 first-at f (y ∷ l) (suc k) e h = first-at f l k (then-zero (f y) (firstOf f l) e .1) (omega arith)
 
-pub no-points : (d : List Float) → pointsOf (take (3 * 0) d) ≡ []
-unfolding pointsOf
-no-points d = refl
+-- a fin of a rim
+module _ (room w fins : List ℕ) (k : ℕ) (h : k < length fins) (r : Rim room w fins) where
+  pub rim-whole : Whole room w (getD fins k 0)
+  rim-whole = whole-of room w (getD fins k 0) (all-nth (finWhole room w) fins k (r .whole) h)
 
--- a turn of the loop that puts one point after the other
-pub points-turn : (f : ℕ → Point3) (l : List ℕ) (d next : List Float) (k : ℕ) (p : Point3) → k < length l → 3 * k + 2 < length d → p ≡ f (getD l k 0)
-    → pointsOf (take (3 * k) d) ≡ map f (take k l) → next ≡ withPoint d k p → pointsOf (take (3 * (k + 1)) next) ≡ map f (take (k + 1) l)
-points-turn f l d next k p h g q s e =
-    ap (λ t. pointsOf (take (3 * (k + 1)) t)) e
-    ∙ point-more d k p g
-    ∙ ap (λ t. t ++ (p ∷ [])) s
-    ∙ ap (λ t. map f (take k l) ++ (t ∷ [])) q
-    ∙ sym (map-turn f l k h)
+  pub rim-start : startNumber room w (getD fins k 0) ≡ 0
+  rim-start = first-at (startNumber room w) fins k (r .starts) h

@@ -1,12 +1,14 @@
 -- The starts of fins, off the lent words. No reader of a public promise needs this file. Definitions only.
 use Prim.Native.Nat.{ℕ, _+_, _<_}
-use mathlib.Core.Bool.{Bool, cond, _&&_}
+use mathlib.Core.Path.{_≡_}
+use mathlib.Core.Bool.{Bool, true, cond, _&&_}
 use mathlib.Core.List.{List}
 use lib.Dec.{eqb, ltb}
 use Rattle.float_vectors.specs.declared.vector.Point3.{Point3}
 use Rattle.geom_lines_planes.specs.Refuse.{_unless_, _then_}
-use Rattle.meaning.specs.Lists.{the}
+use Rattle.meaning.specs.Lists.{all, the}
 use Rattle.meaning.specs.Model.{Model, pointOf}
+use Rattle.meaning.specs.Refuse.{firstOf}
 use Rattle.meaning.specs.Inquire.{startOf}
 use Rattle.memory_layout.specs.Names.{FINS, EDGES, VERTICES, AT-FIN-SENSE, AT-EDGE-START, AT-EDGE-END}
 use Rattle.memory_layout.specs.Layout.{word, wordsOf}
@@ -40,3 +42,8 @@ module _ (room w : List ℕ) where
   pub record Whole (i : ℕ) : Type 0 where
     pub fin : i < word w FINS
     pub edge : finEdge room w i < word w EDGES
+
+  -- the fins of a loop exist, with their edges and their starts
+  pub record Rim (fins : List ℕ) : Type 0 where
+    pub whole : all finWhole fins ≡ true
+    pub starts : firstOf startNumber fins ≡ 0

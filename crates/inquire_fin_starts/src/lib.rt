@@ -1,7 +1,6 @@
 // Inner: where the fins of a loop start (`fin_vertices` and the points of `oriented_face_volume`, inquire.rs). A fin's words are owner, edge,
 // sense, pcurve mark; an edge's begin with start tag, id, end tag, id.
 use float_vectors::vector::Point3;
-use inquire_fan::put_point;
 use memory_layout::layout::words_of;
 use memory_layout::names::AT_EDGE_END;
 use memory_layout::names::AT_EDGE_START;
@@ -15,9 +14,8 @@ use split_segment::refusals::then;
 use split_segment::refusals::unless;
 ghost use mathlib.Core.Path.{_≡_};
 ghost use mathlib.Core.Bool.{true};
-ghost use mathlib.Core.List.{map};
-ghost use Prim.Native.Nat.{_+_, _*_, _≤_};
-ghost use lib.ListN.{length, take};
+ghost use Prim.Native.Nat.{_+_, _≤_};
+ghost use lib.ListN.{length};
 ghost use Rattle.meaning.specs.Lists.{all};
 ghost use Rattle.meaning.specs.Refuse.{firstOf};
 ghost use Rattle.memory_layout.specs.Names.{FINS, EDGES, AT-FIN-SENSE};
@@ -25,7 +23,6 @@ ghost use Rattle.memory_layout.specs.Layout.{word, wordsOf};
 ghost use Rattle.memory_layout.specs.Decode.{decode};
 ghost use Rattle.memory_layout.specs.Fit.{Fit, Lists};
 ghost use Rattle.walk_sources.specs.Sources.{finEdge};
-ghost use Rattle.inquire_fan.specs.Fan.{pointsOf};
 ghost use Rattle.inquire_fin_starts.specs.Starts.{startPlace, endNumber, startNumber, startId, startPoint, finWhole, Whole};
 
 // Where the start stands in the edge's words: a fin that runs against its edge starts at the end.
@@ -102,33 +99,11 @@ fn start_id(room: &[usize; 10], words: &[u32], i: usize) -> u32
 }
 
 // Its point.
-fn start_point(room: &[usize; 10], words: &[u32], reals: &[f64], i: usize) -> Point3
+pub fn start_point(room: &[usize; 10], words: &[u32], reals: &[f64], i: usize) -> Point3
     requires { ⌜ Fit (now room) (now words) (now reals) ⌝ }
     requires { ⌜ Whole (now room) (now words) i ⌝ }
     requires { ⌜ startNumber (now room) (now words) i ≡ 0 ⌝ }
     ensures { λ r. ⌜ r ≡ startPoint (decode (now (room .entry)) (now (words .entry)) (now (reals .entry))) i ⌝ }
 {
     vertex_at(room, words, reals, start_id(room, words, i) as usize).point
-}
-
-// The points where the fins start, in order, three floats for each.
-pub fn start_points(
-    room: &[usize; 10],
-    words: &[u32],
-    reals: &[f64],
-    fins: &[u32],
-    points: &mut [f64],
-)
-    requires { ⌜ Fit (now room) (now words) (now reals) ⌝ }
-    requires { ⌜ all (finWhole (now room) (now words)) (now fins) ≡ true ⌝ }
-    requires { ⌜ firstOf (startNumber (now room) (now words)) (now fins) ≡ 0 ⌝ }
-    requires { ⌜ (length (now fins) ≤ 1024) × (length (now points) ≡ 3072) ⌝ }
-    ensures { λ _. ⌜ pointsOf (take (3 * length (now (fins .entry))) (now (points .exit))) ≡ map (startPoint (decode (now (room .entry)) (now (words .entry)) (now (reals .entry)))) (now (fins .entry)) ⌝ }
-{
-    let mut k = 0;
-    while k < fins.len() {
-        let point = start_point(room, words, reals, fins[k] as usize);
-        put_point(points, k, point);
-        k += 1;
-    }
 }

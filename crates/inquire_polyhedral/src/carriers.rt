@@ -19,7 +19,6 @@ ghost use Rattle.geom_carriers.specs.Queries.{planeRefusal};
 ghost use Rattle.meaning.specs.Inquire.{flatFace, straightEdge};
 ghost use Rattle.memory_layout.specs.Decode.{decode};
 ghost use Rattle.memory_layout.specs.Fit.{Fit};
-ghost use Rattle.inquire_polyhedral.specs.Carried.{carried};
 
 // 2 where there is no surface, 7 where it is no plane, else 0.
 fn plane_refusal(surface: Found) -> u32
@@ -32,7 +31,7 @@ fn plane_refusal(surface: Found) -> u32
 }
 
 // The face missing 2, no surface 1, its surface missing 2, no plane 7.
-fn flat_face(room: &[usize; 10], words: &[u32], reals: &[f64], i: usize) -> u32
+pub fn flat_face(room: &[usize; 10], words: &[u32], reals: &[f64], i: usize) -> u32
     requires { ⌜ Fit (now room) (now words) (now reals) ⌝ }
     ensures { λ r. ⌜ r ≡ flatFace (decode (now (room .entry)) (now (words .entry)) (now (reals .entry))) i ⌝ }
 {
@@ -45,7 +44,7 @@ fn flat_face(room: &[usize; 10], words: &[u32], reals: &[f64], i: usize) -> u32
 }
 
 // The edge missing 2, no curve 1, its curve missing 2, no line 7.
-fn straight_edge(room: &[usize; 10], words: &[u32], reals: &[f64], i: usize) -> u32
+pub fn straight_edge(room: &[usize; 10], words: &[u32], reals: &[f64], i: usize) -> u32
     requires { ⌜ Fit (now room) (now words) (now reals) ⌝ }
     ensures { λ r. ⌜ r ≡ straightEdge (decode (now (room .entry)) (now (words .entry)) (now (reals .entry))) i ⌝ }
 {
@@ -55,21 +54,4 @@ fn straight_edge(room: &[usize; 10], words: &[u32], reals: &[f64], i: usize) -> 
     let w = words_of(room, words, EDGES, i);
     let line = line_refusal(curve_found(room, words, reals, w[AT_EDGE_CURVE_ID] as usize));
     then(unless(1, w[AT_EDGE_CURVE] != 0), line)
-}
-
-// The number of an edge, or of a face.
-pub fn carrier_refusal(
-    room: &[usize; 10],
-    words: &[u32],
-    reals: &[f64],
-    edges: bool,
-    i: usize,
-) -> u32
-    requires { ⌜ Fit (now room) (now words) (now reals) ⌝ }
-    ensures { λ r. ⌜ r ≡ carried (decode (now (room .entry)) (now (words .entry)) (now (reals .entry))) edges i ⌝ }
-{
-    if edges {
-        return straight_edge(room, words, reals, i);
-    }
-    flat_face(room, words, reals, i)
 }

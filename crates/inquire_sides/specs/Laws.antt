@@ -9,7 +9,7 @@ use mathlib.Core.Option.{none, some}
 use lib.Dec.{eqb, ltb}
 use lib.ListN.{length}
 use lib.Ieee.{Float}
-use borrow.Author.Tests.{ltb-true, eqb-true}
+use borrow.Author.Tests.{ltb-true, ltb-false, eqb-true}
 use Rattle.geom_lines_planes.specs.Refuse.{_unless_, _then_}
 use Rattle.meaning.specs.Lists.{all, is}
 use Rattle.meaning.specs.Refuse.{_if_, firstOf}
@@ -22,7 +22,7 @@ use Rattle.memory_layout.specs.Fit.{Lists}
 use Rattle.walk_marks.specs.Laws.{all-nth}
 use Rattle.walk_sources.specs.Laws.{list-short}
 use Rattle.inquire_fan.specs.Fan.{turned}
-use Rattle.inquire_fin_starts.specs.Starts.{startNumber, startPoint, finWhole}
+use Rattle.inquire_fin_starts.specs.Starts.{startNumber, startPoint, finWhole, Rim}
 use Rattle.inquire_fin_starts.specs.Laws.{start-number}
 use Rattle.inquire_sides.specs.Sides.{isAt, boundNumber, rimOf, rimNumber, sideNumber, loopWhole, faceWhole}
 
@@ -74,11 +74,16 @@ module _ (room w : List ℕ) (s f : ℕ) where
   unfolding boundNumber
   one-loop e = eqb-true (length (listOf room w 5 f)) 1 (unless-zero 6 (eqb (length (listOf room w 5 f)) 1) (then-zero (1 if alike (isAt (wordsOf room w 3 f) 2 s) (isAt (wordsOf room w 3 f) 0 s)) _ e .1))
 
-  pub passed : sideNumber room w s f ≡ 0 → (length (listOf room w 5 f) ≡ 1) × (firstOf (startNumber room w) (rimOf room w f) ≡ 0)
+  pub passed : sideNumber room w s f ≡ 0 → (length (listOf room w 5 f) ≡ 1) × (3 ≤ length (rimOf room w f)) × (firstOf (startNumber room w) (rimOf room w f) ≡ 0)
   unfolding sideNumber rimNumber
   passed e =
       let a = then-zero (boundNumber (wordsOf room w 3 f) (length (listOf room w 5 f)) s) _ e in
-      (one-loop (a .0), then-zero (4 if ltb (length (rimOf room w f)) 3) _ (a .1) .1)
+      let b = then-zero (4 if ltb (length (rimOf room w f)) 3) _ (a .1) in
+      (one-loop (a .0), ltb-false (length (rimOf room w f)) 3 (enough (ltb (length (rimOf room w f)) 3) (b .0)), b .1)
+    where
+      enough : (t : Bool) → (4 if t) ≡ 0 → t ≡ false
+      enough true q = absurd (omega arith)
+      enough false q = refl
 
 -- ---- a face that is whole, and its rim
 
@@ -106,3 +111,6 @@ module _ (room w : List ℕ) (f : ℕ) (h : faceWhole room w f ≡ true) where
     pub rim-short : Lists room w → length (rimOf room w f) ≤ 1024
     unfolding rimOf
     rim-short l = list-short room w 6 (word (listOf room w 5 f) 0) l (omega arith) loop-there
+
+    pub rim-of : firstOf (startNumber room w) (rimOf room w f) ≡ 0 → Rim room w (rimOf room w f)
+    rim-of e = record { whole = rim-whole; starts = e }

@@ -1,7 +1,6 @@
 // Inner: a face as a shell lists it, whether its volume can be told, and that volume (`oriented_face_volume` of inquire.rs). A face's words
 // begin with front tag, id, back tag, id.
 use inquire_fan::polygon_volume;
-use inquire_fin_starts::start_points;
 use inquire_fin_starts::starts_refusal;
 use memory_layout::layout::words_of;
 use memory_layout::names::AT_FACE_BACK;
@@ -14,18 +13,15 @@ use split_segment::refusals::then;
 use split_segment::refusals::unless;
 ghost use mathlib.Core.Path.{_≡_};
 ghost use mathlib.Core.Bool.{true};
-ghost use mathlib.Core.List.{map};
 ghost use Prim.Native.Nat.{_+_, _<_, _≤_};
 ghost use lib.ListN.{length};
 ghost use Rattle.meaning.specs.Lists.{all};
-ghost use Rattle.meaning.specs.Refuse.{firstOf};
-ghost use Rattle.meaning.specs.Inquire.{alike, polygonVolume, sideVolume};
+ghost use Rattle.meaning.specs.Inquire.{alike, sideVolume};
 ghost use Rattle.memory_layout.specs.Names.{FACE-LOOPS};
 ghost use Rattle.memory_layout.specs.Decode.{decode};
 ghost use Rattle.memory_layout.specs.Entries.{listOf};
 ghost use Rattle.memory_layout.specs.Fit.{Fit, Lists};
-ghost use Rattle.inquire_fan.specs.Fan.{turned};
-ghost use Rattle.inquire_fin_starts.specs.Starts.{startNumber, startPoint, finWhole};
+ghost use Rattle.inquire_fin_starts.specs.Starts.{finWhole};
 ghost use Rattle.inquire_sides.specs.Sides.{isAt, boundNumber, rimOf, rimNumber, sideNumber, faceWhole};
 
 // Is it this id, at a place of a record: its tag, then the id?
@@ -92,21 +88,6 @@ pub fn side_refusal(room: &[usize; 10], words: &[u32], shell: u32, face: usize) 
     rim_refusal(room, words, rim(room, words, face))
 }
 
-// The volume of the cone from the origin to the polygon of the starts, taken from the front or from the end.
-fn rim_volume(room: &[usize; 10], words: &[u32], reals: &[f64], fins: &[u32], back: bool) -> f64
-    requires { ⌜ Fit (now room) (now words) (now reals) ⌝ }
-    requires { ⌜ all (finWhole (now room) (now words)) (now fins) ≡ true ⌝ }
-    requires { ⌜ firstOf (startNumber (now room) (now words)) (now fins) ≡ 0 ⌝ }
-    requires { ⌜ length (now fins) ≤ 1024 ⌝ }
-    ensures { λ r. ⌜ r ≡ polygonVolume (turned back (map (startPoint (decode (now (room .entry)) (now (words .entry)) (now (reals .entry)))) (now (fins .entry)))) ⌝ }
-{
-    let mut points = [0.0f64; 3072];
-    let n = fins.len();
-    start_points(room, words, reals, fins, &mut points);
-    let m = 3 * n;
-    polygon_volume(&points[..m], n, back)
-}
-
 // The volume that the side adds: a front side reverses the points.
 pub fn side_volume(room: &[usize; 10], words: &[u32], reals: &[f64], shell: u32, face: usize) -> f64
     requires { ⌜ Fit (now room) (now words) (now reals) ⌝ }
@@ -115,5 +96,5 @@ pub fn side_volume(room: &[usize; 10], words: &[u32], reals: &[f64], shell: u32,
     ensures { λ r. ⌜ r ≡ sideVolume (decode (now (room .entry)) (now (words .entry)) (now (reals .entry))) (record { shell = shell; face = face }) ⌝ }
 {
     let back = is_at(words_of(room, words, FACES, face), AT_FACE_FRONT, shell);
-    rim_volume(room, words, reals, rim(room, words, face), back)
+    polygon_volume(room, words, reals, rim(room, words, face), back)
 }

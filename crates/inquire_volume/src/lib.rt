@@ -71,7 +71,7 @@ pub fn body_volume(
 {
     let enough = room[FACES] <= faces.len();
     clear(faces);
-    let n = polyhedral_refusal(room, words, reals, enough, body, faces);
+    let n = polyhedral_refusal(room, words, reals, enough, body);
     if n != 0 {
         return Volume::Refused(n);
     }

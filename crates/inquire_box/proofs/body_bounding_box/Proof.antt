@@ -28,9 +28,7 @@ clear-requires-3 : tie.Need-clear-requires-3
 clear-requires-3 c κs = search needs
 
 polyhedral-refusal-requires : tie.Need-polyhedral-refusal-requires
-polyhedral-refusal-requires c κs =
-    let s = c .before .before .before .before .before .before .before .before .before .before .before .before .before .before .before .before .before .before .before .before .before in
-    zeros-same (s .args .faces .now) _ (c .before .before .before .before .before .before .before .before .before .before .before .clear .ensures)
+polyhedral-refusal-requires c κs = search needs
 
 same-length : tie.Need-same-length
 same-length c = search needs
@@ -43,14 +41,14 @@ same-length-3 c = search needs
 
 returns : tie.Need-returns
 returns c =
-    let s = c .before .before .before .before .before .before .before .before .before .before .before .before .before .before .before .before .before .before .before .before .before .before .before .before .before in
-    (box-refused (s .args .room .now) (s .args .words .now) (s .args .reals .now) (s .args .body) (s .args .faces .now) (s .args .edges .now) (s .args .vertices .now) _ (c .before .before .before .polyhedral-refusal .ensures .0) (c .if1 .taken), (zeros-on (s .args .faces .now) (c .before .before .before .before .before .before .before .before .before .before .before .before .before .before .before .clear .last .0) _ (c .before .before .before .before .before .before .before .before .before .before .before .before .before .before .before .clear .ensures) (c .before .before .before .polyhedral-refusal .ensures .1), (c .before .before .before .before .before .before .before .before .before .before .before .clear2 .ensures, c .before .before .before .before .before .before .before .clear3 .ensures)))
+    let s = c .before .before .before .before .before .before .before .before .before .before .before .before .before .before .before .before .before .before .before .before .before .before in
+    (box-refused (s .args .room .now) (s .args .words .now) (s .args .reals .now) (s .args .body) (s .args .faces .now) (s .args .edges .now) (s .args .vertices .now) _ (c .before .polyhedral-refusal .ensures) (c .if1 .taken), (c .before .before .before .before .before .before .before .before .before .before .before .before .clear .ensures, (c .before .before .before .before .before .before .before .before .clear2 .ensures, c .before .before .before .before .clear3 .ensures)))
 
 bounding-box-requires : tie.Need-bounding-box-requires
 bounding-box-requires c κs =
-    let s = c .before .before .before .before .before .before .before .before .before .before .before .before .before .before .before .before .before .before .before .before .before .before .before .before .before .before .before .before in
-    let a = accepted-polyhedral (s .args .room .now) (s .args .words .now) (s .args .reals .now) (s .args .body) (reach (s .args .room .now) 3 (s .args .faces .now) && reach (s .args .room .now) 6 (s .args .edges .now) && reach (s .args .room .now) 7 (s .args .vertices .now)) (sym (c .before .before .before .before .before .before .polyhedral-refusal .ensures .0) ∙ c .before .before .before .if1 .left) in
-    (a .0, (polyhedral-edged (s .args .room .now) (s .args .words .now) (s .args .reals .now) (s .args .body) (a .1), (zeros-same (s .args .faces .now) _ (zeros-on (s .args .faces .now) (c .before .before .before .before .before .before .before .before .before .before .before .before .before .before .before .before .before .before .clear .last .0) _ (c .before .before .before .before .before .before .before .before .before .before .before .before .before .before .before .before .before .before .clear .ensures) (c .before .before .before .before .before .before .polyhedral-refusal .ensures .1)), (zeros-same (s .args .edges .now) _ (c .before .before .before .before .before .before .before .before .before .before .before .before .before .before .clear2 .ensures), zeros-same (s .args .vertices .now) _ (c .before .before .before .before .before .before .before .before .before .before .clear3 .ensures)))))
+    let s = c .before .before .before .before .before .before .before .before .before .before .before .before .before .before .before .before .before .before .before .before .before .before .before .before .before in
+    let a = accepted-polyhedral (s .args .room .now) (s .args .words .now) (s .args .reals .now) (s .args .body) (reach (s .args .room .now) 3 (s .args .faces .now) && reach (s .args .room .now) 6 (s .args .edges .now) && reach (s .args .room .now) 7 (s .args .vertices .now)) (sym (c .before .before .before .before .polyhedral-refusal .ensures) ∙ c .before .before .before .if1 .left) in
+    (a .0, (polyhedral-edged (s .args .room .now) (s .args .words .now) (s .args .reals .now) (s .args .body) (a .1), (zeros-same (s .args .faces .now) _ (c .before .before .before .before .before .before .before .before .before .before .before .before .before .before .before .clear .ensures), (zeros-same (s .args .edges .now) _ (c .before .before .before .before .before .before .before .before .before .before .before .clear2 .ensures), zeros-same (s .args .vertices .now) _ (c .before .before .before .before .before .before .before .clear3 .ensures)))))
 
 same-length-4 : tie.Need-same-length-4
 same-length-4 c = search needs
@@ -63,8 +61,8 @@ same-length-6 c = search needs
 
 returns-2 : tie.Need-returns-2
 returns-2 c =
-    let s = c .before .before .before .before .before .before .before .before .before .before .before .before .before .before .before .before .before .before .before .before .before .before .before .before .before .before .before .before .before .before .before .before .before .before .before in
-    (box-answered (s .args .room .now) (s .args .words .now) (s .args .reals .now) (s .args .body) (s .args .faces .now) (s .args .edges .now) (s .args .vertices .now) _ (sym (c .before .before .before .before .before .before .before .before .before .before .before .before .before .polyhedral-refusal .ensures .0) ∙ c .before .before .before .before .before .before .before .before .before .before .if1 .left) (c .before .before .before .before .before .before .bounding-box .ensures .0), (zeros-on (s .args .faces .now) (c .before .before .before .before .before .before .before .before .before .before .before .before .before .polyhedral-refusal .last .1 .1 .1 .1 .1 .0) _ (zeros-on (s .args .faces .now) (c .before .before .before .before .before .before .before .before .before .before .before .before .before .before .before .before .before .before .before .before .before .before .before .before .before .clear .last .0) _ (c .before .before .before .before .before .before .before .before .before .before .before .before .before .before .before .before .before .before .before .before .before .before .before .before .before .clear .ensures) (c .before .before .before .before .before .before .before .before .before .before .before .before .before .polyhedral-refusal .ensures .1)) (c .before .before .before .before .before .before .bounding-box .ensures .1 .0), (zeros-on (s .args .edges .now) (c .before .before .before .before .before .before .before .before .before .before .before .before .before .before .before .before .before .before .before .before .before .clear2 .last .0) _ (c .before .before .before .before .before .before .before .before .before .before .before .before .before .before .before .before .before .before .before .before .before .clear2 .ensures) (c .before .before .before .before .before .before .bounding-box .ensures .1 .1 .0), zeros-on (s .args .vertices .now) (c .before .before .before .before .before .before .before .before .before .before .before .before .before .before .before .before .before .clear3 .last .0) _ (c .before .before .before .before .before .before .before .before .before .before .before .before .before .before .before .before .before .clear3 .ensures) (c .before .before .before .before .before .before .bounding-box .ensures .1 .1 .1))))
+    let s = c .before .before .before .before .before .before .before .before .before .before .before .before .before .before .before .before .before .before .before .before .before .before .before .before .before .before .before .before .before .before .before .before in
+    (box-answered (s .args .room .now) (s .args .words .now) (s .args .reals .now) (s .args .body) (s .args .faces .now) (s .args .edges .now) (s .args .vertices .now) _ (sym (c .before .before .before .before .before .before .before .before .before .before .before .polyhedral-refusal .ensures) ∙ c .before .before .before .before .before .before .before .before .before .before .if1 .left) (c .before .before .before .before .before .before .bounding-box .ensures .0), (zeros-on (s .args .faces .now) (c .before .before .before .before .before .before .before .before .before .before .before .before .before .before .before .before .before .before .before .before .before .before .clear .last .0) _ (c .before .before .before .before .before .before .before .before .before .before .before .before .before .before .before .before .before .before .before .before .before .before .clear .ensures) (c .before .before .before .before .before .before .bounding-box .ensures .1 .0), (zeros-on (s .args .edges .now) (c .before .before .before .before .before .before .before .before .before .before .before .before .before .before .before .before .before .before .clear2 .last .0) _ (c .before .before .before .before .before .before .before .before .before .before .before .before .before .before .before .before .before .before .clear2 .ensures) (c .before .before .before .before .before .before .bounding-box .ensures .1 .1 .0), zeros-on (s .args .vertices .now) (c .before .before .before .before .before .before .before .before .before .before .before .before .before .before .clear3 .last .0) _ (c .before .before .before .before .before .before .before .before .before .before .before .before .before .before .clear3 .ensures) (c .before .before .before .before .before .before .bounding-box .ensures .1 .1 .1))))
 
 pub body-bounding-box-spec : {M : Type 1} → statement M
 body-bounding-box-spec =

@@ -15,34 +15,24 @@ readable-requires c κs = search needs
 
 returns : tie.Need-returns
 returns c =
-    let s = c .before .before .before .before .before in
-    (refused-9 (readable (s .args .room .now) (s .args .words .now) (s .args .reals .now)) (s .args .enough) (requirePolyhedral (decode (s .args .room .now) (s .args .words .now) (s .args .reals .now)) (s .args .body)) (sym (c .before .readable .ensures) ∙ not-true (c .before .readable .result) (c .if1 .taken)), s .pre)
+    let s = c .before .before .before .before in
+    refused-9 (readable (s .args .room .now) (s .args .words .now) (s .args .reals .now)) (s .args .enough) (requirePolyhedral (decode (s .args .room .now) (s .args .words .now) (s .args .reals .now)) (s .args .body)) (sym (c .before .readable .ensures) ∙ not-true (c .before .readable .result) (c .if1 .taken))
 
 returns-2 : tie.Need-returns-2
 returns-2 c =
-    let s = c .before .before .before .before .before .before in
-    (refused-8 (readable (s .args .room .now) (s .args .words .now) (s .args .reals .now)) (s .args .enough) (requirePolyhedral (decode (s .args .room .now) (s .args .words .now) (s .args .reals .now)) (s .args .body)) (sym (c .before .before .readable .ensures) ∙ not-false (c .before .before .readable .result) (c .before .if1 .left)) (not-true (s .args .enough) (c .if2 .taken)), s .pre)
+    let s = c .before .before .before .before .before in
+    refused-8 (readable (s .args .room .now) (s .args .words .now) (s .args .reals .now)) (s .args .enough) (requirePolyhedral (decode (s .args .room .now) (s .args .words .now) (s .args .reals .now)) (s .args .body)) (sym (c .before .before .readable .ensures) ∙ not-false (c .before .before .readable .result) (c .before .if1 .left)) (not-true (s .args .enough) (c .if2 .taken))
 
 require-polyhedral-requires : tie.Need-require-polyhedral-requires
 require-polyhedral-requires c κs =
-    let s = c .before .before .before .before .before .before .before in
-    (fit-of (s .args .room .now) (s .args .words .now) (s .args .reals .now) (sym (c .before .before .before .readable .ensures) ∙ not-false (c .before .before .before .readable .result) (c .before .before .if1 .left)), s .pre)
-
-same-length : tie.Need-same-length
-same-length c = search needs
+    let s = c .before .before .before .before .before in
+    fit-of (s .args .room .now) (s .args .words .now) (s .args .reals .now) (sym (c .before .before .readable .ensures) ∙ not-false (c .before .before .readable .result) (c .before .if1 .left))
 
 returns-3 : tie.Need-returns-3
 returns-3 c =
-    let s = c .before .before .before .before .before .before .before .before .before .before in
-    (refused-not (readable (s .args .room .now) (s .args .words .now) (s .args .reals .now)) (s .args .enough) (requirePolyhedral (decode (s .args .room .now) (s .args .words .now) (s .args .reals .now)) (s .args .body)) (sym (c .before .before .before .before .before .before .readable .ensures) ∙ not-false (c .before .before .before .before .before .before .readable .result) (c .before .before .before .before .before .if1 .left)) (not-false (s .args .enough) (c .before .before .before .before .if2 .left)) _ (c .before .before .require-polyhedral .ensures .0), c .before .before .require-polyhedral .ensures .1)
+    let s = c .before .before .before .before .before .before in
+    refused-not (readable (s .args .room .now) (s .args .words .now) (s .args .reals .now)) (s .args .enough) (requirePolyhedral (decode (s .args .room .now) (s .args .words .now) (s .args .reals .now)) (s .args .body)) (sym (c .before .before .before .readable .ensures) ∙ not-false (c .before .before .before .readable .result) (c .before .before .if1 .left)) (not-false (s .args .enough) (c .before .if2 .left)) _ (c .require-polyhedral .ensures)
 
 pub polyhedral-refusal-spec : {M : Type 1} → statement M
 polyhedral-refusal-spec =
-    tie.close
-    (tie.spec
-    readable-requires
-    returns
-    returns-2
-    require-polyhedral-requires
-    same-length
-    returns-3)
+    tie.close (tie.spec readable-requires returns returns-2 require-polyhedral-requires returns-3)

@@ -9,8 +9,7 @@ use mathlib.Core.List.{map}
 use Rattle.meaning.specs.Inquire.{polygonVolume}
 use Rattle.inquire_fan.specs.Fan.{turned}
 use Rattle.inquire_fin_starts.specs.Starts.{startPoint}
-use Rattle.inquire_sides.specs.Sides.{isAt}
-use Rattle.inquire_sides.specs.Laws.{face-there, passed, rim-whole, rim-short, side-volume}
+use Rattle.inquire_sides.specs.Laws.{face-there, passed, rim-of, rim-short, side-volume}
 use Rattle.inquire_sides.proofs.side_volume.Statement.{statement}
 use Rattle.inquire_sides.proofs.side_volume.Tie as tie
 
@@ -37,19 +36,19 @@ rim-requires c κs =
     let p = passed (s .args .room .now) (s .args .words .now) (s .args .shell) (s .args .face) (s .pre .1 .1) in
     (l, (w, p .0))
 
-rim-volume-requires : tie.Need-rim-volume-requires
-rim-volume-requires c κs =
+polygon-volume-requires : tie.Need-polygon-volume-requires
+polygon-volume-requires c κs =
     let s = c .before .before .before .before .before in
     let l = lists-of (s .args .room .now) (s .args .words .now) (s .args .reals .now) (s .pre .0) in
     let w = s .pre .1 .0 in
     let p = passed (s .args .room .now) (s .args .words .now) (s .args .shell) (s .args .face) (s .pre .1 .1) in
-    rw (c .rim .ensures) (s .pre .0, (rim-whole (s .args .room .now) (s .args .words .now) (s .args .face) w (p .0), (p .1, rim-short (s .args .room .now) (s .args .words .now) (s .args .face) w (p .0) l)))
+    rw (c .rim .ensures) (s .pre .0, (rim-of (s .args .room .now) (s .args .words .now) (s .args .face) w (p .0) (p .2), (p .1, rim-short (s .args .room .now) (s .args .words .now) (s .args .face) w (p .0) l)))
 
 returns : tie.Need-returns
 returns c =
     let s = c .before .before .before .before .before .before in
-    c .rim-volume .ensures ∙ ap (λ f. polygonVolume (turned (c .before .before .is-at .result) (map (startPoint (decode (s .args .room .now) (s .args .words .now) (s .args .reals .now))) f))) (c .before .rim .ensures) ∙ ap (λ b. polygonVolume (turned b (map (startPoint (decode (s .args .room .now) (s .args .words .now) (s .args .reals .now))) (rimOf (s .args .room .now) (s .args .words .now) (s .args .face))))) (c .before .before .is-at .ensures ∙ ap (λ t. isAt t 0 (s .args .shell)) (c .before .before .before .words-of .ensures)) ∙ side-volume (s .args .room .now) (s .args .words .now) (s .args .reals .now) (s .args .shell) (s .args .face)
+    c .polygon-volume .ensures ∙ ap (λ f. polygonVolume (turned (c .before .before .is-at .result) (map (startPoint (decode (s .args .room .now) (s .args .words .now) (s .args .reals .now))) f))) (c .before .rim .ensures) ∙ ap (λ b. polygonVolume (turned b (map (startPoint (decode (s .args .room .now) (s .args .words .now) (s .args .reals .now))) (rimOf (s .args .room .now) (s .args .words .now) (s .args .face))))) (c .before .before .is-at .ensures ∙ ap (λ t. isAt t 0 (s .args .shell)) (c .before .before .before .words-of .ensures)) ∙ side-volume (s .args .room .now) (s .args .words .now) (s .args .reals .now) (s .args .shell) (s .args .face)
 
 pub side-volume-spec : {M : Type 1} → statement M
 side-volume-spec =
-    tie.close (tie.spec words-of-requires is-at-requires rim-requires rim-volume-requires returns)
+    tie.close (tie.spec words-of-requires is-at-requires rim-requires polygon-volume-requires returns)

@@ -1,7 +1,6 @@
 -- `inquire_volume::body_volume` meets its contract. Assumes nothing.
 use mathlib.Core.Path.{sym, _∙_}
 use Rattle.walk_answers.specs.Calls.{reach}
-use Rattle.walk_answers.specs.Laws.{zeros-on, zeros-same}
 use Rattle.inquire_polyhedral.specs.Laws.{accepted-polyhedral, polyhedral-edged}
 use Rattle.inquire_volume.specs.Laws.{volume-refused, volume-answered}
 use borrow.Author.Needs.{needs}
@@ -15,22 +14,20 @@ clear-requires : tie.Need-clear-requires
 clear-requires c κs = search needs
 
 polyhedral-refusal-requires : tie.Need-polyhedral-refusal-requires
-polyhedral-refusal-requires c κs =
-    let s = c .before .before .before .before .before .before .before .before .before in
-    zeros-same (s .args .faces .now) _ (c .before .before .before .clear .ensures)
+polyhedral-refusal-requires c κs = search needs
 
 same-length : tie.Need-same-length
 same-length c = search needs
 
 returns : tie.Need-returns
 returns c =
-    let s = c .before .before .before .before .before .before .before .before .before .before .before .before .before in
-    (volume-refused (s .args .room .now) (s .args .words .now) (s .args .reals .now) (s .args .body) (s .args .faces .now) _ (c .before .before .before .polyhedral-refusal .ensures .0) (c .if1 .taken), zeros-on (s .args .faces .now) (c .before .before .before .before .before .before .before .clear .last .0) _ (c .before .before .before .before .before .before .before .clear .ensures) (c .before .before .before .polyhedral-refusal .ensures .1))
+    let s = c .before .before .before .before .before .before .before .before .before .before in
+    (volume-refused (s .args .room .now) (s .args .words .now) (s .args .reals .now) (s .args .body) (s .args .faces .now) _ (c .before .polyhedral-refusal .ensures) (c .if1 .taken), c .before .before .before .before .clear .ensures)
 
 solid-volume-requires : tie.Need-solid-volume-requires
 solid-volume-requires c κs =
-    let s = c .before .before .before .before .before .before .before .before .before .before .before .before .before in
-    let a = accepted-polyhedral (s .args .room .now) (s .args .words .now) (s .args .reals .now) (s .args .body) (reach (s .args .room .now) 3 (s .args .faces .now)) (sym (c .before .before .before .polyhedral-refusal .ensures .0) ∙ c .if1 .left) in
+    let s = c .before .before .before .before .before .before .before .before .before .before in
+    let a = accepted-polyhedral (s .args .room .now) (s .args .words .now) (s .args .reals .now) (s .args .body) (reach (s .args .room .now) 3 (s .args .faces .now)) (sym (c .before .polyhedral-refusal .ensures) ∙ c .if1 .left) in
     (a .0, polyhedral-edged (s .args .room .now) (s .args .words .now) (s .args .reals .now) (s .args .body) (a .1))
 
 same-length-2 : tie.Need-same-length-2
@@ -38,8 +35,8 @@ same-length-2 c = search needs
 
 returns-2 : tie.Need-returns-2
 returns-2 c =
-    let s = c .before .before .before .before .before .before .before .before .before .before .before .before .before .before in
-    (volume-answered (s .args .room .now) (s .args .words .now) (s .args .reals .now) (s .args .body) (s .args .faces .now) _ (sym (c .before .before .before .before .polyhedral-refusal .ensures .0) ∙ c .before .if1 .left) (c .solid-volume .ensures), zeros-on (s .args .faces .now) (c .before .before .before .before .before .before .before .before .clear .last .0) _ (c .before .before .before .before .before .before .before .before .clear .ensures) (c .before .before .before .before .polyhedral-refusal .ensures .1))
+    let s = c .before .before .before .before .before .before .before .before .before .before .before in
+    (volume-answered (s .args .room .now) (s .args .words .now) (s .args .reals .now) (s .args .body) (s .args .faces .now) _ (sym (c .before .before .polyhedral-refusal .ensures) ∙ c .before .if1 .left) (c .solid-volume .ensures), c .before .before .before .before .before .clear .ensures)
 
 pub body-volume-spec : {M : Type 1} → statement M
 body-volume-spec =
