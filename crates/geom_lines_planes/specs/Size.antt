@@ -1,17 +1,17 @@
 -- `sizeF` by the tests that the code makes: below zero, zero, and the rest. Assumes nothing.
-use Prim.Native.Nat.{ℕ, zero, suc, _*_, _^_, _≤_, _<_}
-use mathlib.Core.Path.{_≡_, refl, sym, ap, _∙_, subst}
-use mathlib.Core.Bool.{Bool, true, false, _&&_, _||_, Bool·beq}
+use Prim.Native.Nat.{ℕ, zero, suc, _*_, _^_, _<_}
+use mathlib.Core.Path.{_≡_, refl, sym, subst}
+use mathlib.Core.Bool.{true, false, _||_, Bool·beq}
 use native.Mathlib.Nat.{zero-mul, mul-one, mul-pos, zero-lt-suc}
 use native.Mathlib.Omega.{arith}
-use borrow.Author.Tests.{ltb-true, eqb-true}
-use lib.Dec.{T, eqb, ltb, eqb→eq}
+use borrow.Author.Tests.{ltb-true}
+use lib.Dec.{T, eqb, eqb→eq}
 use lib.Pow.{pow-pos}
 use lib.IntN.{ℤ, pos, negsuc}
 use lib.Ieee.{Float, nan, inf, fin, binary64, fits, up, down, neg, lt, le, eq}
 use lib.Ieee.Fits.{and-l}
 use Rattle.interval_arithmetic.specs.Ops.{zeroF}
-use Rattle.interval_enclosure.specs.Laws.Squares.{neg-le-zero}
+use Rattle.float_values.specs.Laws.Floats.{neg-le-zero}
 use Rattle.geom_lines_planes.specs.Geometry.{sizeF}
 
 pub size-below : (x : Float) → lt x zeroF ≡ true → neg x ≡ sizeF x

@@ -7,7 +7,8 @@ use Rattle.float_vectors.specs.declared.vector.Point3.{Point3}
 use Rattle.float_vectors.specs.declared.vector.Vec3.{Vec3}
 use Rattle.interval_arithmetic.specs.Ops.{pointI}
 use Rattle.interval_vectors.specs.Vectors.{vectorI, dotI}
-use Rattle.interval_enclosure.specs.Value.{value, valueP, valueV, Real, RealP, RealV, Whole3, minusW, dotW, Holds, SignOf}
+use Rattle.float_values.specs.Value.{value, Real}
+use Rattle.interval_enclosure.specs.Value.{valueP, valueV, RealP, RealV, Whole3, minusW, dotW, Holds, SignOf}
 use Rattle.interval_enclosure.specs.Enclose.{point-holds, point3-holds, difference-holds, vector-holds, add-encloses, sub-encloses, sqr-encloses, dot-encloses, rescaled, sign-is}
 use Rattle.geom_lines_planes.specs.declared.surface.Plane.{Plane}
 use Rattle.geom_signs.specs.Signs.{increasingS, spanS, apartS, offPlaneS, offCurveS}

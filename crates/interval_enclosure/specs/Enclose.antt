@@ -1,13 +1,13 @@
 -- What the intervals promise. `Holds k x A` says that the exact number A / 2 ^ k lies in the interval x, a bound that is infinite bounding nothing (`Value.antt`).
 -- A finite float is a number at the scale 1074. A sum and a difference keep the scale, and a product adds the scales. Assumes nothing.
 use Prim.Native.Nat.{ℕ, _+_, _*_, _^_}
-use mathlib.Core.Path.{_≡_, refl, sym, ap, _∙_, subst}
+use mathlib.Core.Path.{_≡_, sym, subst}
 use mathlib.Core.Logic.{_↔_}
-use mathlib.Core.Bool.{Bool, true, false, not, _&&_}
+use mathlib.Core.Bool.{Bool, true, false, not}
 use lib.Dec.{T}
 use lib.Pow.{pow-pos, pow-add}
 use lib.IntN.{ℤ, pos, negℤ, _+ℤ_, _-ℤ_, _*ℤ_}
-use lib.Ieee.{Float, nan, inf, fin, binary64, fits, isNan, up, down, le, lt}
+use lib.Ieee.{Float, inf, fin, binary64, fits, isNan, up, down, le, lt}
 use lib.Ieee.Fits.{and-l, and-r}
 use lib.Ieee.Scale.{finite}
 use Rattle.interval_arithmetic.specs.declared.Interval.{Interval}
@@ -16,16 +16,19 @@ use Rattle.float_vectors.specs.declared.vector.Point3.{Point3}
 use Rattle.float_vectors.specs.declared.vector.Vec3.{Vec3}
 use Rattle.interval_arithmetic.specs.Ops.{pointI, addI, subI, mulI, negI, containsI, sqrI, signI}
 use Rattle.interval_vectors.specs.Vectors.{differenceI, pointI3, vectorI, dotI}
-use Rattle.interval_enclosure.specs.Value.{ONE, units, value, Holds, Real, Whole3, minusW, dotW, valueP, valueV, RealP, RealV, Holds3, SignOf}
-use Rattle.interval_enclosure.specs.Laws.Pairs.{plus, minus, In, over, under}
-use Rattle.interval_enclosure.specs.Laws.Near.{own}
+use Rattle.float_values.specs.Value.{ONE, units, value, Real}
+use Rattle.interval_enclosure.specs.Value.{Holds, Whole3, minusW, dotW, valueP, valueV, RealP, RealV, Holds3, SignOf}
+use Rattle.float_values.specs.Laws.Pairs.{plus, minus, over, under}
+use Rattle.interval_enclosure.specs.Laws.Pairs.{In}
+use Rattle.float_values.specs.Laws.Near.{own}
 use Rattle.interval_enclosure.specs.Laws.Floats.{in-float}
 use Rattle.float_order.specs.Next.{nextUp, nextDown}
-use Rattle.interval_enclosure.specs.Laws.Adjacent as Adjacent
+use Rattle.float_values.specs.Laws.Adjacent as Adjacent
 use Rattle.interval_enclosure.specs.Laws.Sums.{in-add, in-sub, in-neg, in-point}
 use Rattle.interval_enclosure.specs.Laws.Products.{in-mul}
 use Rattle.interval_enclosure.specs.Laws.Squares.{in-sqr, sign-says}
-use Rattle.interval_enclosure.specs.Laws.Integers.{to-in, of-in, sum-parts, diff-parts, neg-parts, product-parts, over-scaled, under-scaled, in-rescaled, over-value, under-value, says-sign}
+use Rattle.float_values.specs.Laws.Integers.{sum-parts, diff-parts, neg-parts, product-parts, over-scaled, under-scaled, over-value, under-value}
+use Rattle.interval_enclosure.specs.Laws.Integers.{to-in, of-in, in-rescaled, says-sign}
 
 pub add-encloses : (k : ℕ) (x y : Interval) (A B : ℤ) → Holds k x A → Holds k y B → Holds k (addI x y) (A +ℤ B)
 add-encloses k x y A B h g =

@@ -1,36 +1,19 @@
 -- What it says that an interval holds an exact number. Definitions only: every promise of `Enclose.antt` is stated by these.
--- An exact number is a whole number over a power of two, A / 2 ^ k. A finite float is a whole number of units of 2 ^ -1074, the least `f64` above zero.
-use Prim.Native.Nat.{ℕ, _*_, _/_, _^_}
+-- An exact number is a whole number over a power of two, A / 2 ^ k. A finite float is a whole number of units of 2 ^ -1074 (`Value.antt` of `float_values`).
+use Prim.Native.Nat.{ℕ, _^_}
 use mathlib.Core.Path.{_≡_}
-use mathlib.Core.Bool.{Bool, true, false, _&&_}
-use lib.IntN.{ℤ, pos, negℤ, _+ℤ_, _-ℤ_, _*ℤ_}
+use mathlib.Core.Bool.{true, false}
+use lib.IntN.{ℤ, pos, _+ℤ_, _-ℤ_, _*ℤ_}
 use lib.Signed.{_≤ℤ_, _<ℤ_}
 use lib.Dec.{T}
-use lib.Ieee.{Float, nan, inf, fin, binary64, fits, up, down}
-use lib.Ieee.Scale.{finite}
+use lib.Ieee.{Float, nan, inf, fin, binary64, fits}
+use Rattle.float_values.specs.Value.{ONE, value, Real}
 use Rattle.interval_arithmetic.specs.declared.Interval.{Interval}
 use Rattle.interval_vectors.specs.declared.Interval3.{Interval3}
 use Rattle.float_vectors.specs.declared.vector.Point3.{Point3}
 use Rattle.float_vectors.specs.declared.vector.Vec3.{Vec3}
 use Rattle.interval_arithmetic.specs.declared.Sign.{Sign}
 use Rattle.interval_arithmetic.specs.declared.Sign.the-variants.{Negative, Zero, Positive, Unresolved}
-
--- how many units make 1. It is shut, so that no check computes with the number
-unfoldable pub ONE : ℕ
-ONE = 2 ^ 1074
-
--- the size of a finite float in units: m * 2 ^ e of them times 2 ^ 1074. Nothing is cut off where `f64` holds the float
-abbrev pub units : Float → ℕ
-units nan = 0
-units (inf s) = 0
-units (fin s m e) = m * up e * ONE / down e
-
--- the number that a finite float is, in units
-abbrev pub value : Float → ℤ
-value nan = pos 0
-value (inf s) = pos 0
-value (fin false m e) = pos (units (fin false m e))
-value (fin true m e) = negℤ (pos (units (fin true m e)))
 
 -- x ≤ A / 2 ^ k. -infinity is below every number; +infinity and a NaN are below none
 abbrev pub LowerBound : ℕ → Float → ℤ → Type 0
@@ -52,10 +35,6 @@ pub record Holds (k : ℕ) (x : Interval) (A : ℤ) : Type 0 where
   pub hi-held : T (fits binary64 (x .hi))
   pub low : LowerBound k (x .lo) A
   pub high : UpperBound k (x .hi) A
-
--- a finite number that `f64` holds
-abbrev pub Real : Float → Type 0
-Real a = T (fits binary64 a && finite a)
 
 -- ---- vectors, part by part
 

@@ -1,48 +1,9 @@
--- The same bounds with no integer: a number is (p - n) / D, a difference of two natural numbers over a scale D, which `omega` reads. Definitions only.
--- Each order is written with every term on the side where it is added: a - b ≤ c - d is a + d ≤ c + b.
-use Prim.Native.Nat.{ℕ, suc, _+_, _*_, _≤_}
-use mathlib.Core.Bool.{true, false}
-use lib.IntN.{ℤ, pos, negsuc}
+-- That an interval holds a number, with no integer: the number is (p - n) / D, as in `Laws/Pairs.antt` of `float_values`. Definitions only.
+use Prim.Native.Nat.{ℕ}
 use lib.Dec.{T}
-use lib.Ieee.{Float, nan, inf, fin, binary64, fits}
+use lib.Ieee.{binary64, fits}
 use Rattle.interval_arithmetic.specs.declared.Interval.{Interval}
-use Rattle.interval_enclosure.specs.Value.{ONE, units}
-
--- a finite float is plus x - minus x units
-abbrev pub plus : Float → ℕ
-plus nan = 0
-plus (inf s) = 0
-plus (fin false m e) = units (fin false m e)
-plus (fin true m e) = 0
-
-abbrev pub minus : Float → ℕ
-minus nan = 0
-minus (inf s) = 0
-minus (fin false m e) = 0
-minus (fin true m e) = units (fin true m e)
-
--- an integer is over A - under A
-abbrev pub over : ℤ → ℕ
-over (pos a) = a
-over (negsuc a) = 0
-
-abbrev pub under : ℤ → ℕ
-under (pos a) = 0
-under (negsuc a) = suc a
-
--- x ≤ (p - n) / D
-abbrev pub Lower : ℕ → Float → ℕ → ℕ → Type 0
-Lower D nan p n = ⊥
-Lower D (inf true) p n = Unit {0}
-Lower D (inf false) p n = ⊥
-Lower D (fin s m e) p n = plus (fin s m e) * D + n * ONE ≤ p * ONE + minus (fin s m e) * D
-
--- (p - n) / D ≤ x
-abbrev pub Upper : ℕ → Float → ℕ → ℕ → Type 0
-Upper D nan p n = ⊥
-Upper D (inf true) p n = ⊥
-Upper D (inf false) p n = Unit {0}
-Upper D (fin s m e) p n = p * ONE + minus (fin s m e) * D ≤ plus (fin s m e) * D + n * ONE
+use Rattle.float_values.specs.Laws.Pairs.{Lower, Upper}
 
 pub record In (D : ℕ) (x : Interval) (p n : ℕ) : Type 0 where
   pub lo-held : T (fits binary64 (x .lo))

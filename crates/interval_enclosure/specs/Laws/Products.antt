@@ -2,26 +2,27 @@
 use mathlib.Core.Path.{_≡_, refl, sym, ap, _∙_, subst}
 use mathlib.Core.Logic.{_⊎_, inl, inr}
 use Prim.Native.Nat.{ℕ, zero, suc, _+_, _-_, _*_, _≤_, _<_, zero-le}
-use native.Mathlib.Nat.{le-refl, le-dest, le-of-lt, not-le-of-lt, lt-irrefl, zero-lt-suc, add-comm, add-mul, mul-add, mul-assoc, mul-comm, mul-left-comm, mul-right-comm, mul-le-mul-right, mul-pos, zero-mul, mul-zero}
+use native.Mathlib.Nat.{le-dest, le-of-lt, not-le-of-lt, lt-irrefl, zero-lt-suc, add-comm, add-mul, mul-add, mul-assoc, mul-comm, mul-left-comm, mul-le-mul-right, mul-pos, zero-mul}
 use native.Mathlib.Omega.{arith}
-use mathlib.Core.Bool.{Bool, true, false, not, cond, _||_, _&&_}
-use lib.Dec.{T, eqb, eqb→eq}
+use mathlib.Core.Bool.{Bool, true, false, not, cond}
+use lib.Dec.{T, eqb}
 use lib.IntN.{ℤ}
 use lib.Ieee.{Float, nan, inf, fin, binary64, up, down, fits, isNan, neg, mul, round, unlike, le}
-use lib.Ieee.Fits.{cond-fits, nan-fits, neg-fits, mul-fits, eq→eqb, up-pos, down-pos}
+use lib.Ieee.Fits.{cond-fits, nan-fits, neg-fits, mul-fits, eq→eqb, up-pos}
 use lib.Ieee.Scale.{finite}
 use Rattle.interval_arithmetic.specs.declared.Interval.{Interval}
-use Rattle.float_order.specs.Next.{INF, TOP, nextUp, nextDown}
+use Rattle.float_order.specs.Next.{INF, nextUp, nextDown}
 use Rattle.float_order.specs.Extremes.{leastF, greatestF}
-use Rattle.interval_arithmetic.specs.Ops.{zeroF, least4, greatest4, onProducts, checkedI, mulI, sqrI}
-use Rattle.interval_enclosure.specs.Value.{ONE, units}
-use Rattle.interval_enclosure.specs.Laws.Small.{le-or-lt, in-top, neg-neg}
-use Rattle.interval_enclosure.specs.Laws.Pairs.{plus, minus, Lower, Upper, In}
-use Rattle.interval_enclosure.specs.Laws.Patterns.{F, F-neg, View, view}
-use Rattle.interval_enclosure.specs.Laws.Central.{one-pos, round-neg}
-use Rattle.interval_enclosure.specs.Laws.Near.{Near, near-mul, lower-mono, upper-mono, own}
-use Rattle.interval_enclosure.specs.Laws.Order.{le-nums, down-mono, up-mono, downS, downI, upS, upI, upI-in, down-is, up-is}
-use Rattle.interval_enclosure.specs.Laws.Sums.{down-fits, up-fits, low-inf, high-inf, checked-in, neg-lower, neg-upper}
+use Rattle.interval_arithmetic.specs.Ops.{least4, greatest4, mulI}
+use Rattle.float_values.specs.Value.{ONE, units}
+use Rattle.float_values.specs.Laws.Small.{le-or-lt, in-top, neg-neg}
+use Rattle.float_values.specs.Laws.Pairs.{plus, minus, Lower, Upper}
+use Rattle.interval_enclosure.specs.Laws.Pairs.{In}
+use Rattle.float_values.specs.Laws.Patterns.{F, F-neg, view}
+use Rattle.float_values.specs.Laws.Central.{one-pos, round-neg}
+use Rattle.float_values.specs.Laws.Near.{near-mul, lower-mono, own}
+use Rattle.float_values.specs.Laws.Order.{le-nums, down-mono, up-mono, downS, downI, upS, upI, upI-in, down-is, up-is}
+use Rattle.interval_enclosure.specs.Laws.Sums.{down-fits, up-fits, low-inf, checked-in, neg-lower, neg-upper}
 
 -- ---- the least of some floats, and the greatest. A NaN among them is the result, of which nothing is asked
 abbrev pub Low : ℕ → Float → ℕ → ℕ → Type 0

@@ -1,30 +1,30 @@
 -- The square of an interval holds the exact square of each number that the interval holds, and the sign of an interval is the sign of each number that it holds. Assumes nothing.
-use mathlib.Core.Path.{_≡_, refl, sym, ap, _∙_, subst}
+use mathlib.Core.Path.{_≡_, sym, ap, _∙_, subst}
 use mathlib.Core.Logic.{_⊎_, inl, inr}
-use Prim.Native.Nat.{ℕ, zero, suc, _+_, _-_, _*_, _≤_, _<_, zero-le}
-use native.Mathlib.Nat.{le-refl, le-of-lt, le-of-eq, le-antisymm, not-le-of-lt, add-comm, zero-mul, mul-zero, mul-one, mul-le-mul-right, le-of-mul-le-mul-right, lt-of-mul-lt-mul-right, mul-pos, eq-or-lt-of-le}
+use Prim.Native.Nat.{ℕ, _+_, _*_, _≤_, _<_, zero-le}
+use native.Mathlib.Nat.{le-of-lt, le-antisymm, add-comm, zero-mul, mul-one, mul-le-mul-right, le-of-mul-le-mul-right, lt-of-mul-lt-mul-right, mul-pos, eq-or-lt-of-le}
 use native.Mathlib.Omega.{arith}
 use mathlib.Core.Bool.{Bool, true, false, not, cond, _||_, _&&_, Bool·beq}
-use lib.Dec.{T, eqb, ltb, eqb→eq, ltb→lt, lt→ltb, lit<, T-not}
+use lib.Dec.{T, eqb, ltb, eqb→eq, ltb→lt, lt→ltb, T-not}
 use lib.IntN.{ℤ, pos}
-use lib.Ieee.{Float, nan, inf, fin, binary64, up, down, fits, isNan, neg, mul, le, lt, eq, ofBits}
-use lib.Ieee.Fits.{mul-fits, neg-fits, eq→eqb, cond-fits, nan-fits, and-l, and-i}
-use lib.Ieee.Scale.{finite}
+use lib.Ieee.{Float, nan, inf, fin, binary64, up, down, fits, isNan, neg, mul, le, lt, eq}
+use lib.Ieee.Fits.{mul-fits, neg-fits, eq→eqb, cond-fits, and-l, and-i}
 use Rattle.interval_arithmetic.specs.declared.Interval.{Interval}
 use Rattle.interval_arithmetic.specs.declared.Sign.{Sign}
 use Rattle.interval_arithmetic.specs.declared.Sign.the-variants.{Negative, Zero, Positive, Unresolved}
-use Rattle.float_order.specs.Next.{INF, nextUp, nextDown}
+use Rattle.float_order.specs.Next.{nextUp, nextDown}
 use Rattle.float_order.specs.Extremes.{leastF, greatestF, squareLow}
-use Rattle.interval_arithmetic.specs.Ops.{zeroF, sqrI, pickSign, signOf, signI}
-use Rattle.interval_enclosure.specs.Value.{ONE, units}
-use Rattle.interval_enclosure.specs.Laws.Small.{le-or-lt, or-left, or-right}
-use Rattle.interval_enclosure.specs.Laws.Pairs.{plus, minus, Lower, Upper, In}
-use Rattle.interval_enclosure.specs.Laws.Patterns.{F, val}
-use Rattle.interval_enclosure.specs.Laws.Central.{one-pos}
-use Rattle.interval_enclosure.specs.Laws.Near.{near-mul, lower-mono, upper-mono, lower-F-pos, own, units-is}
-use Rattle.interval_enclosure.specs.Laws.Order.{le-nums}
+use Rattle.interval_arithmetic.specs.Ops.{zeroF, sqrI, pickSign, signI}
+use Rattle.float_values.specs.Value.{ONE, units}
+use Rattle.float_values.specs.Laws.Small.{le-or-lt, or-left, or-right}
+use Rattle.float_values.specs.Laws.Pairs.{plus, minus, Lower, Upper}
+use Rattle.interval_enclosure.specs.Laws.Pairs.{In}
+use Rattle.float_values.specs.Laws.Central.{one-pos}
+use Rattle.float_values.specs.Laws.Near.{near-mul, upper-mono, own, units-is}
+use Rattle.float_values.specs.Laws.Order.{le-nums}
+use Rattle.float_values.specs.Laws.Floats.{neg-le-zero}
 use Rattle.interval_enclosure.specs.Laws.Sums.{down-fits, up-fits, high-inf, checked-in, neg-lower, neg-upper}
-use Rattle.interval_enclosure.specs.Laws.Products.{Low, High, rearrange, join-low, prod-low, least-low, greatest-high, least-fits, greatest-fits, mul-neg-neg, down-num, up-num}
+use Rattle.interval_enclosure.specs.Laws.Products.{Low, High, rearrange, join-low, prod-low, least-low, greatest-high, greatest-fits, mul-neg-neg, down-num, up-num}
 
 -- ---- a bound on the far side of zero: 0 ≤ a ≤ A gives a * a ≤ A * A, and 0 ≤ A ≤ a gives A * A ≤ a * a
 module _ (D : ℕ) (D-pos : 0 < D) where
@@ -80,20 +80,6 @@ zero-le-pos k e = elim (eq-or-lt-of-le (zero-le {n = k * up e * 1})) [
   | inl z ↦ or-right (ltb (0 * down e) (k * up e * 1)) (eqb (0 * down e) (k * up e * 1) && true) (and-i (eqb (0 * down e) (k * up e * 1)) true (eq→eqb (zero-mul (down e) ∙ z)) tt)
   | inr l ↦ or-left (ltb (0 * down e) (k * up e * 1)) (eqb (0 * down e) (k * up e * 1) && true) (lt→ltb (0 * down e) (k * up e * 1) (let w = zero-mul (down e) in omega arith))
 ]
-
-pub neg-le-zero : (k : ℕ) (e : ℤ) → T (le (fin true k e) zeroF)
-unfolding le
-neg-le-zero k e =
-    let a = k * up e * 1 in
-    let b = 0 * down e in
-    elim (eq-or-lt-of-le (zero-le {n = a + b})) [
-      | inl z ↦
-          let w = zero-mul (down e) in
-          let ab : a ≡ b = omega arith in
-          let a0 : a ≡ 0 = omega arith in
-          or-right (ltb 0 (a + b)) (eqb a b && eqb a 0) (and-i (eqb a b) (eqb a 0) (eq→eqb ab) (eq→eqb a0))
-      | inr l ↦ or-left (ltb 0 (a + b)) (eqb a b && eqb a 0) (lt→ltb 0 (a + b) l)
-    ]
 
 module _ (D : ℕ) (D-pos : 0 < D) where
   -- a lower bound above zero

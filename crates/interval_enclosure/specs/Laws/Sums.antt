@@ -1,6 +1,6 @@
 -- The sum and the difference of two intervals hold the exact sum and the exact difference of any two numbers that the intervals hold. Assumes nothing.
-use mathlib.Core.Path.{_≡_, refl, sym, ap, _∙_, subst}
-use Prim.Native.Nat.{ℕ, zero, suc, _+_, _-_, _*_, _≤_, _<_}
+use mathlib.Core.Path.{_≡_, sym, ap, _∙_, subst}
+use Prim.Native.Nat.{ℕ, _+_, _-_, _*_}
 use native.Mathlib.Nat.{add-mul, le-refl}
 use native.Mathlib.Omega.{arith}
 use mathlib.Core.Bool.{Bool, true, false, not, cond}
@@ -9,14 +9,15 @@ use lib.Ieee.{Float, nan, inf, fin, binary64, fits, isNan, neg, add, sub, ofBits
 use lib.Ieee.Fits.{cond-fits, nan-fits, inf-fits, neg-fits}
 use lib.Ieee.Bits.{ofBits-fits}
 use Rattle.interval_arithmetic.specs.declared.Interval.{Interval}
-use Rattle.float_order.specs.Next.{INF, upBits, downBits, nextUp, nextDown}
+use Rattle.float_order.specs.Next.{upBits, downBits, nextUp, nextDown}
 use Rattle.interval_arithmetic.specs.Ops.{entire, checkedI, pointI, addI, subI, negI}
-use Rattle.interval_enclosure.specs.Value.{ONE}
-use Rattle.interval_enclosure.specs.Laws.Pairs.{plus, minus, Lower, Upper, In}
-use Rattle.interval_enclosure.specs.Laws.Patterns.{F, F-inf}
-use Rattle.interval_enclosure.specs.Laws.Steps.{down-inf, up-inf}
-use Rattle.interval_enclosure.specs.Laws.Central.{one-pos}
-use Rattle.interval_enclosure.specs.Laws.Near.{Near, near-add, near-sub, lower-mono, upper-mono}
+use Rattle.float_values.specs.Value.{ONE}
+use Rattle.float_values.specs.Laws.Pairs.{plus, minus, Lower, Upper}
+use Rattle.interval_enclosure.specs.Laws.Pairs.{In}
+use Rattle.float_values.specs.Laws.Patterns.{F-inf}
+use Rattle.float_values.specs.Laws.Steps.{down-inf, up-inf}
+use Rattle.float_values.specs.Laws.Central.{one-pos}
+use Rattle.float_values.specs.Laws.Near.{near-add, lower-mono, upper-mono}
 
 -- ---- what is common to the operations
 pub down-fits : (x : Float) → T (fits binary64 (nextDown x))

@@ -1,21 +1,20 @@
 -- The bit patterns of binary64 as an index into its values: what number each stands for, in units of 2 ^ -1074, and that the next pattern stands for a larger number. Assumes nothing.
 use mathlib.Core.Path.{_≡_, refl, sym, ap, _∙_, subst}
-use mathlib.Core.Logic.{_⊎_, inl, inr}
+use mathlib.Core.Logic.{inl, inr}
 use Prim.Native.Nat.{ℕ, zero, suc, _+_, _-_, _*_, _/_, _%_, _^_, _≤_, _<_}
-use native.Mathlib.Nat.{le-trans, le-of-eq, le-refl, not-le-of-lt, eq-or-lt-of-le, mul-one, mul-assoc, mul-comm, mul-right-comm, mul-le-mul-right, mul-lt-mul-of-pos-right, lt-of-lt-of-le, lt-of-le-of-lt, le-of-lt, pow-succ'}
+use native.Mathlib.Nat.{le-refl, mul-one, mul-lt-mul-of-pos-right, lt-of-lt-of-le, pow-succ'}
 use native.Mathlib.Omega.{arith}
 use mathlib.Core.Bool.{Bool, true, false, not, cond}
-use lib.Dec.{T, leb, eqb, leb→le, nleb→lt, nltb→le, eqb→eq, not-T, lit<, lit≤}
-use lib.Arith.{le→nltb}
-use lib.Pow.{pow-pos, pow-mono, pow-add, shl-lt}
-use borrow.Author.Tests.{le-leb, lt-leb, eq-eqb, ne-eqb}
-use lib.Ieee.{Float, nan, inf, fin, binary64, odd, round, ofFields, ofBits, toBits, fits, isNan, nanBits, neg}
-use lib.Ieee.Bits.{is-false, cond-no, ofBits-toBits, toBits-lt, toBits-ofBits, nanBits-is, nanBits-above}
+use lib.Dec.{T, leb, eqb, leb→le, nleb→lt, nltb→le, eqb→eq, not-T, lit≤}
+use lib.Pow.{pow-pos, pow-mono, shl-lt}
+use borrow.Author.Tests.{le-leb, lt-leb}
+use lib.Ieee.{Float, nan, inf, binary64, odd, round, ofFields, ofBits, toBits, fits, isNan, nanBits, neg}
+use lib.Ieee.Bits.{cond-no, ofBits-toBits, toBits-lt, toBits-ofBits, nanBits-is, nanBits-above}
 use lib.Ieee.Exact.{HasValue, odd-sign, round-exact}
-use Rattle.float_order.specs.Next.{INF, TOP, NEGINF}
+use Rattle.float_order.specs.Next.{INF, TOP}
 use Rattle.float_order.specs.Bits.{pattern-no-nan}
-use Rattle.interval_enclosure.specs.Value.{ONE}
-use Rattle.interval_enclosure.specs.Laws.Small.{le-or-lt}
+use Rattle.float_values.specs.Value.{ONE}
+use Rattle.float_values.specs.Laws.Small.{le-or-lt}
 
 -- ---- small things
 pub odd-neg : (d q k l : ℕ) → odd d true q k l ≡ neg (odd d false q k l)

@@ -1,25 +1,24 @@
 -- `nextUp x` is the least float above x, and `nextDown x` the greatest below, by the program's own order. Assumes nothing.
 use mathlib.Core.Path.{_≡_, refl, sym, ap, _∙_, subst}
 use mathlib.Core.Logic.{_⊎_, inl, inr}
-use Prim.Native.Nat.{ℕ, zero, suc, _+_, _*_, _≤_, _<_, min, zero-le}
+use Prim.Native.Nat.{ℕ, zero, suc, _+_, _*_, _≤_, _<_, min}
 use native.Mathlib.Nat.{le-refl, le-of-lt, eq-or-lt-of-le, lt-of-le-of-lt, not-le-of-lt}
 use native.Mathlib.Omega.{arith}
-use mathlib.Core.Bool.{Bool, true, false, not, cond, _||_, _&&_, Bool·beq, true≢false}
-use lib.Dec.{T, ltb, eqb, ltb→lt, eqb→eq, lit≤, lit<}
-use lib.IntN.{ℤ}
-use lib.Ieee.{Float, nan, inf, fin, binary64, fits, isNan, up, down, le, lt, eq, below, level, ofBits}
+use mathlib.Core.Bool.{Bool, true, false, not, _||_, _&&_, Bool·beq, true≢false}
+use lib.Dec.{T, ltb, eqb, ltb→lt, eqb→eq}
+use lib.Ieee.{Float, nan, inf, fin, binary64, fits, isNan, up, down, le, lt, eq, below, level}
 use lib.Ieee.Fits.{eq→eqb, and-l, and-r, and-i}
 use lib.Ieee.Bits.{ofBits-fits}
 use lib.Ieee.Exact.{HasValue}
 use lib.Ieee.Scale.{finite}
 use Rattle.float_order.specs.Next.{INF, nextUp, nextDown}
-use Rattle.interval_enclosure.specs.Value.{ONE}
-use Rattle.interval_enclosure.specs.Laws.Small.{le-or-lt, or-split, or-right}
-use Rattle.interval_enclosure.specs.Laws.Pairs.{plus, minus}
-use Rattle.interval_enclosure.specs.Laws.Patterns.{F, sg, val, F-value, F-no-nan, F-inf, View, view}
-use Rattle.interval_enclosure.specs.Laws.Near.{units-is}
-use Rattle.interval_enclosure.specs.Laws.Order.{Before, le-before, val-mono, val-zero, F-at, upS, upI, up-is, downS, downI, down-is, upI-in, downI-in}
-use Rattle.interval_enclosure.specs.Laws.Floats.{of-numbers}
+use Rattle.float_values.specs.Value.{ONE}
+use Rattle.float_values.specs.Laws.Small.{le-or-lt, or-split, or-right}
+use Rattle.float_values.specs.Laws.Pairs.{plus, minus}
+use Rattle.float_values.specs.Laws.Patterns.{F, sg, val, F-value, F-no-nan, View, view}
+use Rattle.float_values.specs.Laws.Near.{units-is}
+use Rattle.float_values.specs.Laws.Order.{Before, le-before, val-mono, val-zero, F-at, upS, upI, up-is, downS, downI, down-is, upI-in, downI-in}
+use Rattle.float_values.specs.Laws.Floats.{of-numbers}
 
 -- ---- `<` and the other way round `<=` exclude each other
 over-or-same : (a b : ℕ) → T (ltb a b) → T (ltb b a || (eqb b a && true)) → ⊥

@@ -1,16 +1,15 @@
 -- `nextDown` and `nextUp` by the sign and the index of a value. Assumes nothing.
-use mathlib.Core.Path.{_≡_, refl, sym, ap, _∙_, subst}
-use Prim.Native.Nat.{ℕ, zero, suc, _+_, _-_, _*_, _%_, _≤_, _<_}
+use mathlib.Core.Path.{_≡_, refl, ap, _∙_}
+use Prim.Native.Nat.{ℕ, zero, suc, _+_, _-_, _≤_, _<_}
 use native.Mathlib.Nat.{le-refl, le-of-lt}
 use native.Mathlib.Omega.{arith}
-use mathlib.Core.Bool.{Bool, true, false, not, cond, _&&_, _||_, Bool·beq}
-use lib.Dec.{T, eqb, ltb, lit≤, eqb-refl, ltb→lt, nltb→le}
-use borrow.Author.Tests.{ne-eqb, lt-ltb, le-ltb, eqb-false}
-use lib.Ieee.{Float, nan, inf, fin, binary64, up, down, ne, isNan, fits, nanBits, ofBits, toBits}
-use lib.Ieee.Bits.{cond-no, ofBits-toBits, toBits-lt, nanBits-is, nanBits-above}
-use lib.Ieee.Compare.{differs-from-itself}
+use mathlib.Core.Bool.{Bool, true, false}
+use lib.Dec.{lit≤}
+use borrow.Author.Tests.{ne-eqb, lt-ltb, le-ltb}
+use lib.Ieee.{nan, binary64, isNan, ofBits, toBits}
+use lib.Ieee.Bits.{cond-no}
 use Rattle.float_order.specs.Next.{INF, TOP, NEGINF, upBits, downBits, nextUp, nextDown}
-use Rattle.interval_enclosure.specs.Laws.Patterns.{F, sg, F-bits, F-no-nan}
+use Rattle.float_values.specs.Laws.Patterns.{F, sg, F-bits, F-no-nan}
 
 -- a step, by the index on the right side of the sign
 down-at : (s : Bool) (b n : ℕ) → b ≤ INF → downBits (sg s + b) ≡ n → nextDown (F s b) ≡ ofBits binary64 n

@@ -1,23 +1,23 @@
 -- An exact number and the float that an operation gives for it: `Near D r p n` says that (p - n) / D lies between the floats next to r.
 -- So it is of a sum, a difference and a product of two finite floats. Assumes nothing.
 use mathlib.Core.Path.{_≡_, refl, sym, ap, _∙_, subst}
-use mathlib.Core.Logic.{_⊎_, inl, inr}
+use mathlib.Core.Logic.{inl, inr}
 use Prim.Native.Nat.{ℕ, zero, suc, _+_, _-_, _*_, _/_, _≤_, _<_}
 use native.Mathlib.Nat.{le-of-eq, le-of-lt, eq-or-lt-of-le, mul-pos, mul-assoc, mul-comm, mul-right-comm, mul-mul-mul-comm, add-mul, zero-mul, mul-zero, sub-add-cancel, mul-div-cancel, mul-le-mul-right, le-of-mul-le-mul-right}
 use native.Mathlib.Omega.{arith}
 use mathlib.Core.Bool.{Bool, true, false, not, cond, true≢false}
-use lib.Dec.{T, ltb, ltb→lt, nltb→le, lit<, lit≤}
+use lib.Dec.{T, ltb, ltb→lt, nltb→le, lit≤}
 use lib.Ieee.{Float, nan, inf, fin, binary64, up, down, round, fits, neg, isNan, sum, add, sub, mul, unlike}
 use lib.IntN.{ℤ}
 use lib.Ieee.Fits.{down-pos, neg-fits}
 use lib.Ieee.Exact.{HasValue}
-use lib.Ieee.Scale.{finite}
-use Rattle.float_order.specs.Next.{INF, TOP, nextUp, nextDown}
-use Rattle.interval_enclosure.specs.Value.{ONE, units}
-use Rattle.interval_enclosure.specs.Laws.Pairs.{plus, minus, Lower, Upper}
-use Rattle.interval_enclosure.specs.Laws.Patterns.{F, val, F-value, F-inf, View, view}
-use Rattle.interval_enclosure.specs.Laws.Steps.{down-zero, down-pos as step-pos, down-neg, down-inf, up-zero, up-pos, up-neg, up-inf}
-use Rattle.interval_enclosure.specs.Laws.Central.{one-pos, round-up, round-down, Rounded, rounded}
+use lib.Ieee.Scale.{finite, round-same}
+use Rattle.float_order.specs.Next.{INF, nextUp, nextDown}
+use Rattle.float_values.specs.Value.{ONE, units}
+use Rattle.float_values.specs.Laws.Pairs.{plus, minus, Lower, Upper}
+use Rattle.float_values.specs.Laws.Patterns.{F, val, F-value, F-inf, view}
+use Rattle.float_values.specs.Laws.Steps.{down-zero, down-pos as step-pos, down-neg, down-inf, up-zero, up-pos, up-neg, up-inf}
+use Rattle.float_values.specs.Laws.Central.{one-pos, round-up, round-down, rounded}
 
 -- ---- the bounds of a float, from its number
 pub units-is : (s : Bool) (m : ℕ) (e : ℤ) (v : ℕ) → m * up e * ONE ≡ v * down e → units (fin s m e) ≡ v
@@ -150,66 +150,70 @@ own s m e h =
           k .1 ∙ ap (λ (z : ℕ). z * down e) (sym (units-is s m e (val (v .index)) (k .1)))
     ]
 
--- ---- the sum. a / c and b / c are X and Y units
+-- ---- the sum: r is p - n units, rounded
+pub record Sum (r : Float) (p n : ℕ) : Type 0 where
+  pub sign : Bool
+  pub size : ℕ
+  pub is : r ≡ round binary64 sign size ONE
+  pub number : cond sign 0 size + n ≡ p + cond sign size 0
+
+pub sum-near : (r : Float) (p n : ℕ) → Sum r p n → Near ONE r p n
+sum-near r p n h =
+    let q = cond (h .sign) 0 (h .size) in
+    let m = cond (h .sign) (h .size) 0 in
+    let e : q * ONE + n * ONE ≡ p * ONE + m * ONE = sym (add-mul q n ONE) ∙ ap (λ (z : ℕ). z * ONE) (h .number) ∙ add-mul p m ONE in
+    near-same r ONE ONE q m p n one-pos e (subst (λ (x : Float). Near ONE x q m) (sym (h .is)) (near-round (h .sign) (h .size) ONE one-pos))
+
+-- a / c and b / c are X and Y units, and so are their sum and their difference
 module _ (a b c X Y : ℕ) (C : 0 < c) (ha : a * ONE ≡ X * c) (hb : b * ONE ≡ Y * c) where
-  add-eq : (a + b) * ONE ≡ (X + Y) * c
-  add-eq = simp add-mul (omega arith)
+  together : (s : Bool) → round binary64 s (a + b) c ≡ round binary64 s (X + Y) ONE
+  together s = round-same binary64 s (a + b) c (X + Y) ONE C one-pos (simp add-mul (omega arith))
 
-  sub-eq : b ≤ a → (a - b) * ONE + Y * c ≡ X * c
-  sub-eq h =
-      let e : (a - b) * ONE + b * ONE ≡ a * ONE = sym (add-mul (a - b) b ONE) ∙ ap (λ (z : ℕ). z * ONE) (sub-add-cancel h) in
-      omega arith
+  least : b ≤ a → Y ≤ X
+  least h = le-of-mul-le-mul-right {k = c} (let w = mul-le-mul-right ONE h in omega arith) C
 
-  flip-eq : a ≤ b → (b - a) * ONE + X * c ≡ Y * c
-  flip-eq h =
-      let e : (b - a) * ONE + a * ONE ≡ b * ONE = sym (add-mul (b - a) a ONE) ∙ ap (λ (z : ℕ). z * ONE) (sub-add-cancel h) in
-      omega arith
+  apart : b ≤ a → (s : Bool) → round binary64 s (a - b) c ≡ round binary64 s (X - Y) ONE
+  apart h s =
+      let d : (a - b) * ONE + b * ONE ≡ a * ONE = sym (add-mul (a - b) b ONE) ∙ ap (λ (z : ℕ). z * ONE) (sub-add-cancel h) in
+      let e : (X - Y) * c + Y * c ≡ X * c = sym (add-mul (X - Y) Y c) ∙ ap (λ (z : ℕ). z * c) (sub-add-cancel (least h)) in
+      round-same binary64 s (a - b) c (X - Y) ONE C one-pos (omega arith)
 
-  near-pp : Near ONE (sum binary64 false a false b c) (X + Y) (0 + 0)
+module _ (a b c X Y : ℕ) (C : 0 < c) (ha : a * ONE ≡ X * c) (hb : b * ONE ≡ Y * c) where
+  sum-alike : (s : Bool) (p n : ℕ) → cond s 0 (X + Y) + n ≡ p + cond s (X + Y) 0 → Sum (sum binary64 s a s b c) p n
   unfolding sum
-  near-pp = near-same (round binary64 false (a + b) c) c ONE (a + b) 0 (X + Y) (0 + 0) C (let e = add-eq in omega arith) (near-round false (a + b) c C)
+  sum-alike true p n e = record { sign = true; size = X + Y; is = together a b c X Y C ha hb true; number = e }
+  sum-alike false p n e = record { sign = false; size = X + Y; is = together a b c X Y C ha hb false; number = e }
 
-  near-nn : Near ONE (sum binary64 true a true b c) (0 + 0) (X + Y)
+  sum-pn : Sum (sum binary64 false a true b c) (X + 0) (0 + Y)
   unfolding sum
-  near-nn = near-same (round binary64 true (a + b) c) c ONE 0 (a + b) (0 + 0) (X + Y) C (let e = add-eq in omega arith) (near-round true (a + b) c C)
-
-  near-pn : Near ONE (sum binary64 false a true b c) (X + 0) (0 + Y)
-  unfolding sum
-  near-pn = go (ltb a b) (ltb→lt a b) (nltb→le a b)
+  sum-pn = go (ltb a b) (ltb→lt a b) (nltb→le a b)
     where
-      lo : a ≤ b → 0 * ONE + (0 + Y) * c ≡ (X + 0) * c + (b - a) * ONE
-      lo h = let e = flip-eq h in simp add-mul (omega arith)
+      go : (t : Bool) → (T t → a < b) → (T (not t) → b ≤ a) → Sum (cond t (round binary64 true (b - a) c) (round binary64 false (a - b) c)) (X + 0) (0 + Y)
+      go true f g =
+          let l = le-of-lt (f tt) in
+          let w = least b a c Y X C hb ha l in
+          record { sign = true; size = Y - X; is = apart b a c Y X C hb ha l true; number = omega arith }
+      go false f g =
+          let w = least a b c X Y C ha hb (g tt) in
+          record { sign = false; size = X - Y; is = apart a b c X Y C ha hb (g tt) false; number = omega arith }
 
-      hi : b ≤ a → (a - b) * ONE + (0 + Y) * c ≡ (X + 0) * c + 0 * ONE
-      hi h = let e = sub-eq h in simp add-mul (omega arith)
-
-      go : (t : Bool) → (T t → a < b) → (T (not t) → b ≤ a) → Near ONE (cond t (round binary64 true (b - a) c) (round binary64 false (a - b) c)) (X + 0) (0 + Y)
-      go true f g = near-same (round binary64 true (b - a) c) c ONE 0 (b - a) (X + 0) (0 + Y) C (lo (le-of-lt (f tt))) (near-round true (b - a) c C)
-      go false f g = near-same (round binary64 false (a - b) c) c ONE (a - b) 0 (X + 0) (0 + Y) C (hi (g tt)) (near-round false (a - b) c C)
-
-  near-np : Near ONE (sum binary64 true a false b c) (0 + Y) (X + 0)
+  sum-np : Sum (sum binary64 true a false b c) (0 + Y) (X + 0)
   unfolding sum
-  near-np = go (ltb a b) (ltb b a) (ltb→lt a b) (nltb→le a b) (nltb→le b a)
+  sum-np = go (ltb a b) (ltb b a) (ltb→lt a b) (nltb→le a b) (nltb→le b a)
     where
-      lo : a ≤ b → (b - a) * ONE + (X + 0) * c ≡ (0 + Y) * c + 0 * ONE
-      lo h = let e = flip-eq h in simp add-mul (omega arith)
-
-      hi : b ≤ a → 0 * ONE + (X + 0) * c ≡ (0 + Y) * c + (a - b) * ONE
-      hi h = let e = sub-eq h in simp add-mul (omega arith)
-
+      go : (t u : Bool) → (T t → a < b) → (T (not t) → b ≤ a) → (T (not u) → a ≤ b) → Sum (cond t (round binary64 false (b - a) c) (round binary64 u (a - b) c)) (0 + Y) (X + 0)
+      go true u f g h =
+          let l = le-of-lt (f tt) in
+          let w = least b a c Y X C hb ha l in
+          record { sign = false; size = Y - X; is = apart b a c Y X C hb ha l false; number = omega arith }
+      go false true f g h =
+          let w = least a b c X Y C ha hb (g tt) in
+          record { sign = true; size = X - Y; is = apart a b c X Y C ha hb (g tt) true; number = omega arith }
       -- an exact zero
-      mid : a ≤ b → b ≤ a → (a - b) * ONE + (X + 0) * c ≡ (0 + Y) * c + 0 * ONE
-      mid h k =
-          let e = sub-eq k in
-          let d = flip-eq h in
-          let z : a - b ≡ 0 = omega arith in
-          let w : (a - b) * ONE ≡ 0 = ap (λ (u : ℕ). u * ONE) z ∙ zero-mul ONE in
-          simp add-mul (omega arith)
-
-      go : (t u : Bool) → (T t → a < b) → (T (not t) → b ≤ a) → (T (not u) → a ≤ b) → Near ONE (cond t (round binary64 false (b - a) c) (round binary64 u (a - b) c)) (0 + Y) (X + 0)
-      go true u f g h = near-same (round binary64 false (b - a) c) c ONE (b - a) 0 (0 + Y) (X + 0) C (lo (le-of-lt (f tt))) (near-round false (b - a) c C)
-      go false true f g h = near-same (round binary64 true (a - b) c) c ONE 0 (a - b) (0 + Y) (X + 0) C (hi (g tt)) (near-round true (a - b) c C)
-      go false false f g h = near-same (round binary64 false (a - b) c) c ONE (a - b) 0 (0 + Y) (X + 0) C (mid (h tt) (g tt)) (near-round false (a - b) c C)
+      go false false f g h =
+          let w = least a b c X Y C ha hb (g tt) in
+          let v = least b a c Y X C hb ha (h tt) in
+          record { sign = false; size = X - Y; is = apart a b c X Y C ha hb (g tt) false; number = omega arith }
 
 -- a float's fraction over a common denominator
 over : (M X de dd : ℕ) → M * ONE ≡ X * de → M * dd * ONE ≡ X * (de * dd)
@@ -218,13 +222,13 @@ over M X de dd h = mul-right-comm M dd ONE ∙ ap (λ (z : ℕ). z * dd) h ∙ m
 over' : (M X de dd : ℕ) → M * ONE ≡ X * dd → M * de * ONE ≡ X * (de * dd)
 over' M X de dd h = over M X dd de h ∙ ap (λ (z : ℕ). X * z) (mul-comm dd de)
 
-pub near-add : (x y : Float) → T (fits binary64 x) → T (fits binary64 y) → T (finite x) → T (finite y) → Near ONE (add binary64 x y) (plus x + plus y) (minus x + minus y)
+pub sum-add : (x y : Float) → T (fits binary64 x) → T (fits binary64 y) → T (finite x) → T (finite y) → Sum (add binary64 x y) (plus x + plus y) (minus x + minus y)
 unfolding add
-near-add nan y f g h k = absurd h
-near-add (inf s) y f g h k = absurd h
-near-add (fin s m e) nan f g h k = absurd k
-near-add (fin s m e) (inf t) f g h k = absurd k
-near-add (fin s m e) (fin t n d) f g h k =
+sum-add nan y f g h k = absurd h
+sum-add (inf s) y f g h k = absurd h
+sum-add (fin s m e) nan f g h k = absurd k
+sum-add (fin s m e) (inf t) f g h k = absurd k
+sum-add (fin s m e) (fin t n d) f g h k =
     go s t (over (m * up e) (units (fin s m e)) (down e) (down d) (own s m e f)) (over' (n * up d) (units (fin t n d)) (down e) (down d) (own t n d g))
   where
     a : ℕ
@@ -236,12 +240,18 @@ near-add (fin s m e) (fin t n d) f g h k =
     c : ℕ
     c = down e * down d
 
+    C : 0 < c
+    C = mul-pos (down-pos e) (down-pos d)
+
     go : (s t : Bool) → a * ONE ≡ units (fin s m e) * c → b * ONE ≡ units (fin t n d) * c
-        → Near ONE (sum binary64 s a t b c) (plus (fin s m e) + plus (fin t n d)) (minus (fin s m e) + minus (fin t n d))
-    go false false = near-pp a b c (units (fin false m e)) (units (fin false n d)) (mul-pos (down-pos e) (down-pos d))
-    go false true = near-pn a b c (units (fin false m e)) (units (fin true n d)) (mul-pos (down-pos e) (down-pos d))
-    go true false = near-np a b c (units (fin true m e)) (units (fin false n d)) (mul-pos (down-pos e) (down-pos d))
-    go true true = near-nn a b c (units (fin true m e)) (units (fin true n d)) (mul-pos (down-pos e) (down-pos d))
+        → Sum (sum binary64 s a t b c) (plus (fin s m e) + plus (fin t n d)) (minus (fin s m e) + minus (fin t n d))
+    go false false i j = sum-alike a b c _ _ C i j false _ _ refl
+    go false true i j = sum-pn a b c _ _ C i j
+    go true false i j = sum-np a b c _ _ C i j
+    go true true i j = sum-alike a b c _ _ C i j true _ _ refl
+
+pub near-add : (x y : Float) → T (fits binary64 x) → T (fits binary64 y) → T (finite x) → T (finite y) → Near ONE (add binary64 x y) (plus x + plus y) (minus x + minus y)
+near-add x y f g h k = sum-near (add binary64 x y) (plus x + plus y) (minus x + minus y) (sum-add x y f g h k)
 
 -- ---- the difference
 pub neg-finite : (x : Float) → T (finite x) → T (finite (neg x))
@@ -268,8 +278,11 @@ sub-is : (x y : Float) → sub binary64 x y ≡ add binary64 x (neg y)
 unfolding sub
 sub-is x y = refl
 
+pub sum-sub : (x y : Float) → T (fits binary64 x) → T (fits binary64 y) → T (finite x) → T (finite y) → Sum (sub binary64 x y) (plus x + minus y) (minus x + plus y)
+sum-sub x y f g h k = rw (sub-is x y, ← plus-neg y, ← minus-neg y) (sum-add x (neg y) f (neg-fits binary64 y g) h (neg-finite y k))
+
 pub near-sub : (x y : Float) → T (fits binary64 x) → T (fits binary64 y) → T (finite x) → T (finite y) → Near ONE (sub binary64 x y) (plus x + minus y) (minus x + plus y)
-near-sub x y f g h k = rw (sub-is x y, ← plus-neg y, ← minus-neg y) (near-add x (neg y) f (neg-fits binary64 y g) h (neg-finite y k))
+near-sub x y f g h k = sum-near (sub binary64 x y) (plus x + minus y) (minus x + plus y) (sum-sub x y f g h k)
 
 -- ---- the product, at the scale ONE * ONE
 prod-eq : (M N X Y de dd : ℕ) → M * ONE ≡ X * de → N * ONE ≡ Y * dd → M * N * (ONE * ONE) ≡ X * Y * (de * dd)

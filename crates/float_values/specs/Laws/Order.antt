@@ -2,24 +2,22 @@
 use mathlib.Core.Path.{_≡_, refl, sym, ap, _∙_, subst}
 use mathlib.Core.Logic.{_⊎_, inl, inr}
 use Prim.Native.Nat.{ℕ, zero, suc, _+_, _-_, _*_, _≤_, _<_, min}
-use native.Mathlib.Nat.{le-refl, le-trans, le-of-eq, le-of-lt, lt-of-lt-of-le, lt-of-le-of-lt, eq-or-lt-of-le, not-le-of-lt, mul-le-mul-right, le-of-mul-le-mul-right, le-of-suc-le-suc, zero-mul}
+use native.Mathlib.Nat.{le-trans, le-of-eq, le-of-lt, lt-of-lt-of-le, lt-of-le-of-lt, eq-or-lt-of-le, not-le-of-lt, mul-le-mul-right, le-of-mul-le-mul-right, le-of-suc-le-suc, zero-mul}
 use native.Mathlib.Omega.{arith}
-use mathlib.Core.Bool.{Bool, true, false, not, cond, _||_, _&&_, true≢false}
-use lib.Dec.{T, ltb, eqb, ltb→lt, eqb→eq, lit≤, lit<, T-not}
-use lib.IntN.{ℤ}
+use mathlib.Core.Bool.{Bool, true, false, not, _||_, _&&_, true≢false}
+use lib.Dec.{T, ltb, eqb, ltb→lt, eqb→eq, lit≤}
 use lib.Ieee.{Float, nan, inf, fin, binary64, up, down, fits, isNan, le, lt, eq}
 use lib.Ieee.Fits.{down-pos, and-l, and-r}
 use lib.Ieee.Exact.{HasValue}
 use lib.Ieee.Order.{transfer}
-use Rattle.float_order.specs.Next.{INF, TOP, nextUp, nextDown}
-use Rattle.float_order.specs.Extremes.{leastF, greatestF}
-use Rattle.interval_enclosure.specs.Value.{ONE}
-use Rattle.interval_enclosure.specs.Laws.Small.{le-or-lt, or-split}
-use Rattle.interval_enclosure.specs.Laws.Pairs.{plus, minus, Lower, Upper}
-use Rattle.interval_enclosure.specs.Laws.Patterns.{F, val, F-value, F-inf, val-step, View, view}
-use Rattle.interval_enclosure.specs.Laws.Steps.{down-zero, down-pos as step-pos, down-neg, down-inf, up-zero, up-pos, up-neg, up-inf}
-use Rattle.interval_enclosure.specs.Laws.Central.{one-pos, le-values}
-use Rattle.interval_enclosure.specs.Laws.Near.{units-is, lower-F-pos, lower-F-neg, upper-F-pos, upper-F-neg}
+use Rattle.float_order.specs.Next.{INF, nextUp, nextDown}
+use Rattle.float_values.specs.Value.{ONE}
+use Rattle.float_values.specs.Laws.Small.{le-or-lt, or-split}
+use Rattle.float_values.specs.Laws.Pairs.{Lower, Upper}
+use Rattle.float_values.specs.Laws.Patterns.{F, val, F-value, F-inf, val-step, view}
+use Rattle.float_values.specs.Laws.Steps.{down-zero, down-pos as step-pos, down-neg, down-inf, up-zero, up-pos, up-neg, up-inf}
+use Rattle.float_values.specs.Laws.Central.{one-pos, le-values}
+use Rattle.float_values.specs.Laws.Near.{units-is, lower-F-pos, lower-F-neg, upper-F-pos, upper-F-neg}
 
 -- ---- the numbers of the indices are in their order
 pub val-mono : (b c : ℕ) → b ≤ c → val b ≤ val c

@@ -2,9 +2,8 @@
 -- `round` keeps the order and changes no float. So were N / D above the next float up, it would round to that float or a larger one.
 use mathlib.Core.Path.{_≡_, refl, sym, ap, _∙_, subst}
 use mathlib.Core.Logic.{_⊎_, inl, inr}
-use Prim.Native.Nat.{ℕ, zero, suc, _+_, _-_, _*_, _/_, _%_, _^_, _≤_, _<_, compare}
-use native.Mathlib.Nat.{le-trans, le-of-eq, le-refl, le-of-lt, not-le-of-lt, eq-or-lt-of-le, lt-of-not-le, mul-comm, mul-pos, le-of-mul-le-mul-right, lt-of-lt-of-le}
-use native.Mathlib.Omega.{arith}
+use Prim.Native.Nat.{ℕ, zero, suc, _-_, _*_, _/_, _%_, _^_, _≤_, _<_, compare}
+use native.Mathlib.Nat.{le-of-eq, le-of-lt, not-le-of-lt, eq-or-lt-of-le, le-of-mul-le-mul-right}
 use mathlib.Core.Bool.{Bool, true, false, not, cond, _||_, _&&_, true≢false}
 use lib.Dec.{T, ltb, eqb, ltb→lt, eqb→eq}
 use lib.Pow.{pow-pos}
@@ -12,10 +11,10 @@ use lib.Ieee.{Float, nan, inf, fin, binary64, up, down, round, units, odd, size,
 use lib.Ieee.Fits.{down-pos, round-fits, and-l}
 use lib.Ieee.Exact.{HasValue}
 use lib.Ieee.Order.{round-mono, transfer}
-use Rattle.float_order.specs.Next.{INF, TOP, NEGINF}
-use Rattle.interval_enclosure.specs.Value.{ONE}
-use Rattle.interval_enclosure.specs.Laws.Small.{le-or-lt, or-split, in-top}
-use Rattle.interval_enclosure.specs.Laws.Patterns.{F, val, F-value, F-inf, val-step, val-exact, odd-neg, F-neg, View, view}
+use Rattle.float_order.specs.Next.{INF}
+use Rattle.float_values.specs.Value.{ONE}
+use Rattle.float_values.specs.Laws.Small.{le-or-lt, or-split, in-top}
+use Rattle.float_values.specs.Laws.Patterns.{F, val, F-value, F-inf, val-step, val-exact, odd-neg, F-neg, View, view}
 
 pub one-pos : 0 < ONE
 unfolding ONE
