@@ -1,6 +1,8 @@
 //! The published files of gensolid-math, unchanged (so that rustfmt skips them), under the names that
 //! the other crates use.
 
+pub mod exact;
+
 #[rustfmt::skip]
 #[path = "../source/crates/gensolid-math/src/bbox.rs"]
 pub mod bbox;
@@ -9,7 +11,7 @@ pub mod bbox;
 pub mod frame;
 #[rustfmt::skip]
 #[path = "../source/crates/gensolid-math/src/interval.rs"]
-pub mod interval;
+pub mod published;
 #[rustfmt::skip]
 #[path = "../source/crates/gensolid-math/src/predicates.rs"]
 pub mod predicates;
@@ -19,7 +21,7 @@ pub mod vector;
 
 pub use bbox::Aabb;
 pub use frame::Frame;
-pub use interval::Interval;
+pub use exact::Interval;
 pub use vector::{Point2, Point3, Vec2, Vec3};
 
 /// The crate's own lib.rs, which defines this, is not among the published files; interval.rs and

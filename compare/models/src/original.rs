@@ -5,6 +5,7 @@ use std::ops::Index;
 use gensolid_check::{CheckOptions, Fault, FaultKind, Report, check_body};
 use gensolid_core::{Arena, Error, Id, Precision, Result, Tolerance, effective_tolerance};
 use gensolid_geom::{BCurve, Circle, Curve, Line, ParamRange, Plane, Sphere, Surface};
+pub use gensolid_math::exact::published;
 use gensolid_math::{Frame, Interval, Point3, Sign, Vec3};
 use gensolid_topo::intervals::{dot, vector};
 use gensolid_topo::{

@@ -4,6 +4,7 @@ mod operands;
 mod original;
 pub mod random;
 
+use gensolid_math::exact::published;
 pub use original::OPERATIONS;
 use random::Random;
 
@@ -31,6 +32,8 @@ pub struct Row {
     pub operands: [f64; 12],
     pub answer: Answer,
     pub by: By,
+    /// What the Rust as published answers, where W-205 changes it.
+    pub was: Option<Answer>,
 }
 
 /// What an operation's number means.
@@ -58,7 +61,13 @@ impl Operation {
     pub fn rows(&self, op: u32, seed: u64) -> impl Iterator<Item = Row> + use<> {
         let mut random = Random::new(seed.wrapping_add(u64::from(op) << 32));
         let make = self.make;
-        std::iter::repeat_with(move || make(&mut random))
+        std::iter::repeat_with(move || {
+            let was = published(|| make(&mut random.clone()));
+            let mut row = make(&mut random);
+            assert_eq!(was.operands.map(f64::to_bits), row.operands.map(f64::to_bits));
+            row.was = (!same(&was.answer, &row.answer)).then_some(was.answer);
+            row
+        })
     }
 
     /// The sorts of answer that a summary counts, in the order of `sort`.
@@ -87,6 +96,10 @@ impl Operation {
             (_, number) => number as usize,
         }
     }
+}
+
+pub fn same(a: &Answer, b: &Answer) -> bool {
+    a.number == b.number && a.values.map(told) == b.values.map(told)
 }
 
 /// The bits by which floats are told apart: all NaNs count as one.

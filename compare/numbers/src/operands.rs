@@ -2,6 +2,7 @@
 
 use gensolid_core::{Precision, Tolerance};
 use gensolid_geom::{Line, Plane};
+use gensolid_math::exact::published;
 use gensolid_math::{Frame, Interval, Point3, Vec3};
 
 use crate::random::{Random, Style};
@@ -45,8 +46,9 @@ pub fn interval(r: &mut Random, style: Style) -> Interval {
             let bounds = [0.0, -0.0, f64::from_bits(1), -f64::from_bits(1)];
             between(r.pick(&bounds), r.pick(&bounds))
         }
-        6 => interval(r, style) + Interval::point(a),
-        7 => interval(r, style) - Interval::point(a),
+        // The operands are the same by either rule of sums.
+        6 => published(|| interval(r, style) + Interval::point(a)),
+        7 => published(|| interval(r, style) - Interval::point(a)),
         8 => interval(r, style) * Interval::point(a),
         9 => interval(r, style).sqr(),
         _ => between(a, r.float(style)),

@@ -49,7 +49,10 @@ pub const OPERATIONS: [Operation; 34] = [
     refusal("project_to_curve", 9, project_to_curve),
     refusal("distance_to_surface", 9, distance_to_surface),
     sign("increasing sign", 9, increasing),
-    sign("span sign", 2, span),
+    Operation {
+        numbers: &[0, 1, 2, 3],
+        ..sign("span sign", 2, span)
+    },
     sign("apart sign", 7, apart),
     sign("off plane sign", 10, off_plane),
     sign("off curve sign", 8, off_curve),
@@ -77,8 +80,7 @@ const fn truth(name: &'static str, reads: usize, make: Make) -> Operation {
     }
 }
 
-/// The sign tests end in a sum or a difference, which moves its two bounds apart: never both to
-/// zero.
+/// The sign tests but one take products, which move their two bounds apart: never both to zero.
 const fn sign(name: &'static str, reads: usize, make: Make) -> Operation {
     Operation {
         name,
@@ -110,6 +112,7 @@ fn row(operands: &[f64], answer: Answer) -> Row {
         operands: padded(operands),
         answer,
         by: By::Rust,
+        was: None,
     }
 }
 

@@ -1,6 +1,7 @@
 //! Seeded floats, so that a row can be met again.
 
 /// SplitMix64.
+#[derive(Clone)]
 pub struct Random(u64);
 
 /// Where the floats of one row come from. Most rows keep to one style: with twelve operands of

@@ -1,10 +1,11 @@
 -- The operations on intervals (01, "Intervals"; interval.rs), over IEEE 754 as `lib.Ieee` has it. Definitions only.
 -- Those that a caller sees are `unfoldable`: each names its operands several times, and a chain of a dozen would be too long to compute if they opened by themselves.
 use mathlib.Core.Bool.{Bool, true, false, cond, _&&_}
-use lib.Ieee.{Float, inf, binary64, isNan, add, sub, mul, neg, lt, le, eq}
+use lib.Ieee.{Float, inf, binary64, isNan, add, mul, neg, lt, le, eq}
 use Rattle.float_order.specs.Next.{nextUp, nextDown}
 use Rattle.float_order.specs.Extremes.{leastF, greatestF, squareLow}
 use Rattle.float_order.specs.Extremes as Extremes
+use Rattle.float_exact.specs.Exact.{exactSum}
 use Rattle.interval_arithmetic.specs.declared.Interval.{Interval}
 use Rattle.interval_arithmetic.specs.declared.Sign.{Sign}
 use Rattle.interval_arithmetic.specs.declared.Sign.the-variants.{Negative, Zero, Positive, Unresolved}
@@ -21,7 +22,7 @@ entire = record { lo = inf true; hi = inf false }
 abbrev pub checkedI : Float → Float → Interval
 checkedI lo hi = cond (isNan lo) entire (cond (isNan hi) entire (record { lo = lo; hi = hi }))
 
--- 01, "then the low bound moves one float down and the high one up"
+-- 01, "then the low bound moves one float down and the high one up": so a product
 abbrev pub outwardI : Float → Float → Interval
 outwardI lo hi = checkedI (nextDown lo) (nextUp hi)
 
@@ -29,12 +30,19 @@ outwardI lo hi = checkedI (nextDown lo) (nextUp hi)
 unfoldable pub pointI : Float → Interval
 pointI x = checkedI x x
 
--- 01, "A sum, difference or product is worked out in floats", then moved
-unfoldable pub addI : Interval → Interval → Interval
-addI x y = outwardI (add binary64 (x .lo) (y .lo)) (add binary64 (x .hi) (y .hi))
+-- 01, "A sum, difference or product is worked out in floats", then moved; W-205, "A sum or difference of finite bounds that is exact shall stay; any other moves": each bound is judged by itself
+abbrev pub lowSum : Float → Float → Float
+lowSum a b = let s = add binary64 a b in cond (exactSum a b) s (nextDown s)
 
+abbrev pub highSum : Float → Float → Float
+highSum a b = let s = add binary64 a b in cond (exactSum a b) s (nextUp s)
+
+unfoldable pub addI : Interval → Interval → Interval
+addI x y = checkedI (lowSum (x .lo) (y .lo)) (highSum (x .hi) (y .hi))
+
+-- a - b is a + (-b), also in floats (`sub` of lib.Ieee)
 unfoldable pub subI : Interval → Interval → Interval
-subI x y = outwardI (sub binary64 (x .lo) (y .hi)) (sub binary64 (x .hi) (y .lo))
+subI x y = checkedI (lowSum (x .lo) (neg (y .hi))) (highSum (x .hi) (neg (y .lo)))
 
 -- 01, "products take the least and greatest of the four"
 abbrev pub least4 : Float → Float → Float → Float → Float

@@ -1,15 +1,18 @@
 // For callers: interval arithmetic with outward rounding (interval.rs). Each bound is worked out in floats, rounded to nearest,
-// and then moved one float outward, so that it encloses the exact result (`specs/Enclose.antt` of `interval_enclosure`).
+// and then moved one float outward, unless it is a sum that is exact (W-205), so that it encloses the exact result
+// (`specs/Enclose.antt` of `interval_enclosure`).
 //
 // The family interval_: numbers known between two bounds. interval_arithmetic has the operations, interval_vectors vectors of intervals,
-// interval_enclosure the proof that bounds hold the exact number.
+// interval_enclosure the proof that bounds hold the exact number,
+// interval_narrowing the proof that narrower operands give narrower intervals.
+use float_exact::exact_sum;
 use float_order::extremes::greatest;
 use float_order::extremes::least;
 use float_order::extremes::square_low;
 use float_order::next_down;
 use float_order::next_up;
 ghost use mathlib.Core.Path.{_≡_};
-ghost use Rattle.interval_arithmetic.specs.Ops.{checkedI, outwardI, pointI, addI, subI, mulI, negI, containsI, sqrI, signOf, signI};
+ghost use Rattle.interval_arithmetic.specs.Ops.{checkedI, outwardI, pointI, lowSum, highSum, addI, subI, mulI, negI, containsI, sqrI, signOf, signI};
 
 // A closed interval of numbers, which holds the exact value that it stands for. A bound that is an
 // infinity bounds nothing.
@@ -51,6 +54,27 @@ fn outward(lo: f64, hi: f64) -> Interval
     checked(next_down(lo), next_up(hi))
 }
 
+// A low bound and a high one that are a sum: moved unless it is exact.
+fn low_sum(a: f64, b: f64) -> f64
+    ensures { λ r. ⌜ r ≡ lowSum a b ⌝ }
+{
+    let s = a + b;
+    if exact_sum(a, b) {
+        return s;
+    }
+    next_down(s)
+}
+
+fn high_sum(a: f64, b: f64) -> f64
+    ensures { λ r. ⌜ r ≡ highSum a b ⌝ }
+{
+    let s = a + b;
+    if exact_sum(a, b) {
+        return s;
+    }
+    next_up(s)
+}
+
 fn sign_of(lo: f64, hi: f64) -> Sign
     ensures { λ r. ⌜ r ≡ signOf lo hi ⌝ }
 {
@@ -79,13 +103,13 @@ impl Interval {
     pub fn add(self, o: Interval) -> Interval
         ensures { λ r. ⌜ r ≡ addI self o ⌝ }
     {
-        outward(self.lo + o.lo, self.hi + o.hi)
+        checked(low_sum(self.lo, o.lo), high_sum(self.hi, o.hi))
     }
 
     pub fn sub(self, o: Interval) -> Interval
         ensures { λ r. ⌜ r ≡ subI self o ⌝ }
     {
-        outward(self.lo - o.hi, self.hi - o.lo)
+        checked(low_sum(self.lo, -o.hi), high_sum(self.hi, -o.lo))
     }
 
     pub fn mul(self, o: Interval) -> Interval

@@ -2,6 +2,8 @@
 use Prim.Native.Nat.{ℕ}
 use lib.Ieee.{toBits, ofBits, add, sub, mul, div, neg, round, ofInt, isNan, lt, le, eq}
 use Rattle.float_order.specs.Next.{nextUp, nextDown}
+use Rattle.float_values.specs.Value.{ONE}
+use Rattle.float_exact.specs.Exact.{exactSum}
 use Rattle.interval_arithmetic.specs.Ops.{pointI, addI, subI, mulI, sqrI, signI}
 use Rattle.float_vectors.specs.Space.{finitePoint, minus, along, scaledV, dotV, crossV}
 use Rattle.interval_vectors.specs.Vectors.{differenceI, pointI3, vectorI, dotI}
@@ -18,7 +20,7 @@ use Rattle.meaning.specs.Faults.{faultOn, geometryError, curveTest, poin
 use Rattle.meaning.specs.Formed.{tablesPass, idsOk, listedOk, closed, loopCloses, wellFormed}
 
 unfoldable pub computing : ℕ
-unfolding toBits ofBits add sub mul div neg round ofInt isNan lt le eq nextUp nextDown pointI addI subI mulI sqrI signI finitePoint minus along scaledV dotV
+unfolding toBits ofBits add sub mul div neg round ofInt isNan lt le eq nextUp nextDown ONE exactSum pointI addI subI mulI sqrI signI finitePoint minus along scaledV dotV
     crossV differenceI pointI3 vectorI dotI linePoint nearest sizeF planeDistance theLine lineRefusal thePlane planeRefusal increasingS spanS apartS offPlaneS
     offCurveS run allBelow all any every member count countIf place joined meet meets extended changed carrierAt firstRefusal firstOf faceWalk
     facesRefusal edgeWalk edgesRefusal vertexWalk verticesRefusal flatFace straightEdge requirePolyhedral grown boxOf boxRefusal solidSides

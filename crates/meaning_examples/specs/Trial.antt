@@ -86,7 +86,7 @@ rows =
     ∷ (faults-of hollow gives numbers [])
     ∷ (volume-of hollow gives refusal 4)
     ∷ (fit-of hollow gives numbers (0 ∷ []))
-    ∷ (sum-of 1 2 gives numbers (0x4007_ffff_ffff_ffff ∷ 0x4008_0000_0000_0001 ∷ []))
+    ∷ (sum-of 1 2 gives numbers (0x4008_0000_0000_0000 ∷ 0x4008_0000_0000_0000 ∷ []))
     ∷ []
 
 pub rows-hold : map (λ r. tell (r .input)) rows ≡ map (λ r. r .result) rows

@@ -9,7 +9,7 @@ use calls::layout::{LARGEST, LISTS, Lent};
 use calls::spoil::spoil;
 use calls::tally::Tally;
 use gensolid_topo::Model;
-use models::original::{self, Names};
+use models::original::{self, Names, published};
 use models::plain::{Carrier, Plain};
 use models::random::Random;
 use models::{Made, Sort, fraction, made, unlisted};
@@ -25,6 +25,8 @@ enum How {
     Volume(fn(&[u64]) -> Option<Vec<u64>>),
     Report(fn(&(Vec<u64>, usize)) -> Option<(Vec<u64>, usize)>),
     Fit(fn(&Lent, usize, &[u64]) -> Option<Vec<u64>>),
+    /// Splits by the published sums.
+    Sums,
 }
 
 /// What a station would say that found fit to saw by another report: with geometry or not, of so many samples, and by what counts.
@@ -91,7 +93,8 @@ fn turned(before: &Lent, edge: usize) -> Vec<(u32, u32)> {
     fins.iter().copied().zip(new).filter(negative).collect()
 }
 
-const WRONGS: [Wrong; 28] = [
+const WRONGS: [Wrong; 29] = [
+    ("moves every sum", How::Sums),
     ("puts every new fin after the old one", How::Split(|before, lent, edge, given| {
         for (old, new) in turned(before, edge) {
             let owner = before.words[before.word_at(5, old as usize)] as usize;
@@ -279,6 +282,26 @@ fn around_ends(plain: &mut Plain, random: &mut Random) -> Option<usize> {
     Some(edge)
 }
 
+/// A vertex moved off its straight edge by just about the sum of both tolerances, which are set too: about the sign of the off-curve test.
+fn around_curve(plain: &mut Plain, random: &mut Random) -> Option<usize> {
+    let edge = random.below(plain.edges.len().max(1));
+    let record = plain.edges.get_mut(edge)?;
+    let Carrier::Line(_, way) = *plain.curves.get(record.curve?)? else {
+        return None;
+    };
+    let vertex = plain.vertices.get_mut(if random.one_in(2) { record.start? } else { record.end? })?;
+    let [own, edges] = [(); 2].map(|()| plain.precision * random.pick(&[1.0, 0.75, 3.0, 64.0]));
+    (vertex.tolerance, record.tolerance) = (Some(own), Some(edges));
+    let across = (0..3).min_by(|&i, &j| way[i].abs().total_cmp(&way[j].abs()))?;
+    let away: [f64; 3] = std::array::from_fn(|i| f64::from(u8::from(i == across)) - way[across] * way[i]);
+    let size = away.iter().map(|a| a * a).sum::<f64>().sqrt();
+    let times = 1.0 + f64::EPSILON * random.pick(&[-6.0, -3.0, -2.0, -1.0, -0.5, 0.0, 1.0, 2.0, 3.0, 6.0]);
+    for (p, a) in vertex.point.iter_mut().zip(away) {
+        *p += a / size * (own + edges) * times;
+    }
+    Some(edge)
+}
+
 /// Up to 50 splits, one after the other, on both sides.
 fn splits(
     tally: &mut Tally,
@@ -316,9 +339,14 @@ fn splits(
             1 => random.pick(&[0.25, 0.5, 0.75]),
             _ => part,
         };
+        let was = published(|| original::split(&mut model.clone(), names, edge, at));
         let mut after = model.clone();
         let mut expected = original::split(&mut after, names, edge, at);
         tally.met("split", &expected.words);
+        let by_sums = expected.numbers.clone();
+        if was.numbers != by_sums {
+            tally.met("W-205, split", format!("{} was {}", expected.words, was.words));
+        }
         if !expected.refused() && !has_slots(&plain, &lent.room, edge) {
             tally.listed("a split without a slot");
             expected.numbers = vec![8];
@@ -331,6 +359,9 @@ fn splits(
             && let Some(other) = wrong(&before, &mut lent, edge, &given)
         {
             given = other;
+        }
+        if matches!(wrong, Some(How::Sums)) && was.numbers != by_sums {
+            given = was.numbers;
         }
         tally.same("splits", &expected.numbers, &given, || {
             format!("split {step} of edge {edge} at {at:?}")
@@ -387,6 +418,20 @@ fn boxes(
     }
 }
 
+/// What W-205 changes of a report: `unchecked` falls, or turns into reason 22.
+fn sums(tally: &mut Tally, was: &[u64], now: &[u64]) {
+    if was == now {
+        return;
+    }
+    let off = |report: &[u64]| report[2..].chunks(4).filter(|fault| fault[0] == 22).count();
+    let (fell, more) = (was[1] as i64 - now[1] as i64, off(now) as i64 - off(was) as i64);
+    let others = |report: &[u64]| -> Vec<u64> {
+        report[2..].chunks(4).filter(|fault| fault[0] != 22).flatten().copied().collect()
+    };
+    let other = if others(was) == others(now) && more >= 0 && fell >= more { "" } else { ", and more than that" };
+    tally.met("W-205, report", format!("unchecked {} fewer, reason 22 {more} more{other}", if fell > 3 { "over 3".into() } else { fell.to_string() }));
+}
+
 fn reports(
     tally: &mut Tally,
     names: &Names,
@@ -407,6 +452,11 @@ fn reports(
                 }
             };
             tally.met("report", &told.words);
+            let was = published(|| original::report(&made.model, names, body, geometry, samples));
+            match was {
+                Ok(was) => sums(tally, &was.numbers, &told.numbers),
+                Err(why) => tally.met("W-205, report", format!("was left out, {why}")),
+            }
             let faults = told.numbers.len().saturating_sub(2) / 4;
             let places = match random.below(3) {
                 0 => random.below(faults + 1),
@@ -438,6 +488,10 @@ fn reports(
             }
         };
         tally.met("verdict", &told.words);
+        let was = published(|| original::verdict(&made.model, names, body));
+        if was.is_ok_and(|was| was.numbers != told.numbers) {
+            tally.met("W-205, verdict", &told.words);
+        }
         let mut given = lent.fit(body, random.bits() as u8);
         if let Some(How::Fit(wrong)) = wrong {
             given = wrong(&lent, body, &given).unwrap_or(given);
@@ -479,6 +533,14 @@ fn compared(
     if what == "reports" && random.one_in(3) {
         made = unlisted(made, names, &mut random);
     }
+    if what == "reports" && random.one_in(3) {
+        let mut plain = made.plain.clone();
+        if around_curve(&mut plain, &mut random).is_some()
+            && let Ok(model) = original::build(&mut plain, names)
+        {
+            (made.model, made.plain) = (model, plain);
+        }
+    }
     tally.begin(format!(
         "model {number} of seed {seed}: {}",
         made.told.join("; ")
@@ -496,7 +558,7 @@ fn wrongs(names: &Names, count: u64, seed: u64) -> ExitCode {
     let mut unseen = 0;
     for (what, how) in WRONGS {
         let asked = match how {
-            How::Split(_) => "splits",
+            How::Split(_) | How::Sums => "splits",
             How::Box(_) | How::Volume(_) => "boxes",
             How::Report(_) | How::Fit(_) => "reports",
         };

@@ -5,7 +5,7 @@ use std::env;
 use std::process::ExitCode;
 
 use numbers::random::{Random, Style};
-use numbers::{Answer, By, Kind, OPERATIONS, Operation, Row, told};
+use numbers::{Answer, By, Kind, OPERATIONS, Operation, Row, same};
 
 #[link(name = "replay_probe", kind = "static")]
 unsafe extern "C" {
@@ -14,6 +14,9 @@ unsafe extern "C" {
 
 /// How many differing rows of an operation are shown.
 const SHOWN: usize = 3;
+
+/// The number of a sign that is not decided.
+const UNRESOLVED: u32 = 3;
 
 /// What the probe answers to a number that is no operation's.
 const NO_OPERATION: u32 = u32::MAX;
@@ -24,10 +27,6 @@ fn ours(op: u32, operands: &[f64; 12]) -> Answer {
     // SAFETY: the probe reads the twelve floats, writes the six and keeps neither address.
     let number = unsafe { brunskerl_probe(op, operands, &mut values) };
     Answer { number, values }
-}
-
-fn same(a: &Answer, b: &Answer) -> bool {
-    a.number == b.number && a.values.map(told) == b.values.map(told)
 }
 
 fn hex(floats: &[f64]) -> String {
@@ -57,6 +56,9 @@ struct Tally {
     differ: u64,
     listed: u64,
     by_rule: u64,
+    /// Where W-205 changes the published answer; and where a sign that was decided is another now.
+    changed: u64,
+    turned: u64,
 }
 
 /// Operands that an operation does not read are to have no effect.
@@ -82,6 +84,10 @@ fn compare(op: u32, rows: usize, seed: u64) -> Tally {
         let given = ours(op, &row.operands);
         tally.rows += 1;
         sorts[operation.sort(&row.answer)] += 1;
+        if let Some(was) = row.was {
+            tally.changed += 1;
+            tally.turned += u64::from(operation.kind == Kind::Sign && was.number != UNRESOLVED);
+        }
         if !same(&row.answer, &given) {
             tally.differ += 1;
             if tally.differ <= SHOWN as u64 {
@@ -115,8 +121,12 @@ fn compare(op: u32, rows: usize, seed: u64) -> Tally {
         0 => String::new(),
         rows => format!(" ({rows} by 01's rule)"),
     };
+    let changed = match tally.changed {
+        0 => String::new(),
+        rows => format!("; {rows} changed by W-205, {} decided signs turned", tally.turned),
+    };
     println!(
-        "{op:2} {:19} {} rows: {}{by_rule}; {} differ, {} listed",
+        "{op:2} {:19} {} rows: {}{by_rule}; {} differ, {} listed{changed}",
         operation.name,
         tally.rows,
         met.join(", "),
@@ -174,6 +184,8 @@ fn main() -> ExitCode {
         total.differ += tally.differ;
         total.listed += tally.listed;
         total.by_rule += tally.by_rule;
+        total.changed += tally.changed;
+        total.turned += tally.turned;
     }
     println!(
         "{} rows held to 01's rule, since the Rust has no such carrier",
@@ -183,7 +195,11 @@ fn main() -> ExitCode {
         "{} rows compared, {} differ, {} by listed departures",
         total.rows, total.differ, total.listed
     );
-    if total.differ == 0 {
+    println!(
+        "{} answers changed by W-205, {} decided signs turned",
+        total.changed, total.turned
+    );
+    if total.differ + total.turned == 0 {
         ExitCode::SUCCESS
     } else {
         ExitCode::FAILURE

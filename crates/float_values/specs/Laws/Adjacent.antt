@@ -76,14 +76,14 @@ F-fits : (s : Bool) (b : ℕ) → T (fits binary64 (F s b))
 unfolding F
 F-fits s b = ofBits-fits binary64 (sg s + b)
 
-ninf-le : (y : Float) → T (not (isNan y)) → T (le (inf true) y)
+pub ninf-le : (y : Float) → T (not (isNan y)) → T (le (inf true) y)
 unfolding le isNan
 ninf-le nan h = h
 ninf-le (inf true) h = tt
 ninf-le (inf false) h = tt
 ninf-le (fin t n d) h = tt
 
-le-pinf : (x : Float) → T (not (isNan x)) → T (le x (inf false))
+pub le-pinf : (x : Float) → T (not (isNan x)) → T (le x (inf false))
 unfolding le isNan
 le-pinf nan h = h
 le-pinf (inf true) h = tt
@@ -248,7 +248,7 @@ level-sym s a t b h =
     and-i (eqb b a) (Bool·beq t s || eqb b 0) (eq→eqb (sym e))
     (subst (λ (z : ℕ). T (Bool·beq t s || eqb z 0)) e (subst (λ (r : Bool). T (r || eqb a 0)) (beq-sym s t) (and-r (eqb a b) (Bool·beq s t || eqb a 0) h)))
 
-eq-back : (x y : Float) → T (eq x y) → T (le y x)
+pub eq-back : (x y : Float) → T (eq x y) → T (le y x)
 unfolding eq le
 eq-back nan y h = absurd h
 eq-back (inf s) nan h = absurd h

@@ -1,16 +1,19 @@
 -- The sum and the difference of two intervals hold the exact sum and the exact difference of any two numbers that the intervals hold. Assumes nothing.
-use mathlib.Core.Path.{_≡_, sym, ap, _∙_, subst}
+use mathlib.Core.Path.{_≡_, refl, sym, ap, _∙_, subst}
 use Prim.Native.Nat.{ℕ, _+_, _-_, _*_}
-use native.Mathlib.Nat.{add-mul, le-refl}
+use native.Mathlib.Nat.{add-mul, le-refl, le-of-eq}
 use native.Mathlib.Omega.{arith}
-use mathlib.Core.Bool.{Bool, true, false, not, cond}
+use mathlib.Core.Bool.{Bool, true, false, not, cond, false≢true}
 use lib.Dec.{T}
-use lib.Ieee.{Float, nan, inf, fin, binary64, fits, isNan, neg, add, sub, ofBits, toBits}
-use lib.Ieee.Fits.{cond-fits, nan-fits, inf-fits, neg-fits}
+use lib.Ieee.{Float, nan, inf, fin, binary64, fits, isNan, neg, add, ofBits, toBits}
+use lib.Ieee.Fits.{cond-fits, nan-fits, inf-fits, neg-fits, add-fits}
+use lib.Ieee.Scale.{finite}
 use lib.Ieee.Bits.{ofBits-fits}
 use Rattle.interval_arithmetic.specs.declared.Interval.{Interval}
 use Rattle.float_order.specs.Next.{upBits, downBits, nextUp, nextDown}
-use Rattle.interval_arithmetic.specs.Ops.{entire, checkedI, pointI, addI, subI, negI}
+use Rattle.float_exact.specs.Exact.{exactSum}
+use Rattle.float_exact.specs.Laws.{exact-finite, exact-adds}
+use Rattle.interval_arithmetic.specs.Ops.{entire, checkedI, pointI, lowSum, highSum, addI, subI, negI}
 use Rattle.float_values.specs.Value.{ONE}
 use Rattle.float_values.specs.Laws.Pairs.{plus, minus, Lower, Upper}
 use Rattle.interval_enclosure.specs.Laws.Pairs.{In}
@@ -85,12 +88,72 @@ add-high D (fin s m e) (fin t l d) p n p' n' f g h k =
     let y = fin t l d in
     upper-mono (nextUp (add binary64 x y)) ONE D (plus x + plus y) (minus x + minus y) (p + p') (n + n') one-pos (simp add-mul (omega arith)) (near-add x y f g tt tt .above)
 
+-- ---- a sum that is exact stays (W-205)
+
+exact-at : (r : Float) (P N : ℕ) → T (finite r) → plus r + N ≡ P + minus r → (Lower ONE r P N) × (Upper ONE r P N)
+exact-at nan P N f e = absurd f
+exact-at (inf s) P N f e = absurd f
+exact-at (fin s m e) P N f q =
+    let r = fin s m e in
+    let same : plus r * ONE + N * ONE ≡ P * ONE + minus r * ONE = sym (add-mul (plus r) N ONE) ∙ ap (λ k. k * ONE) q ∙ add-mul P (minus r) ONE in
+    (le-of-eq same, le-of-eq (sym same))
+
+kept : (x y : Float) → T (exactSum x y) → (Lower ONE (add binary64 x y) (plus x + plus y) (minus x + minus y)) × (Upper ONE (add binary64 x y) (plus x + plus y) (minus x + minus y))
+kept x y t = exact-at (add binary64 x y) (plus x + plus y) (minus x + minus y) (exact-finite x y t .sum) (exact-adds x y t)
+
+kept-low : (D : ℕ) (x y : Float) (p n p' n' : ℕ) → T (exactSum x y) → Lower D x p n → Lower D y p' n' → Lower D (add binary64 x y) (p + p') (n + n')
+kept-low D nan y p n p' n' t h k = absurd h
+kept-low D (inf s) y p n p' n' t h k = absurd (exact-finite (inf s) y t .first)
+kept-low D (fin s m e) nan p n p' n' t h k = absurd k
+kept-low D (fin s m e) (inf u) p n p' n' t h k = absurd (exact-finite (fin s m e) (inf u) t .second)
+kept-low D (fin s m e) (fin u l d) p n p' n' t h k =
+    let x = fin s m e in
+    let y = fin u l d in
+    lower-mono (add binary64 x y) ONE D (plus x + plus y) (minus x + minus y) (p + p') (n + n') one-pos (simp add-mul (omega arith)) (kept x y t .0)
+
+kept-high : (D : ℕ) (x y : Float) (p n p' n' : ℕ) → T (exactSum x y) → Upper D x p n → Upper D y p' n' → Upper D (add binary64 x y) (p + p') (n + n')
+kept-high D nan y p n p' n' t h k = absurd h
+kept-high D (inf s) y p n p' n' t h k = absurd (exact-finite (inf s) y t .first)
+kept-high D (fin s m e) nan p n p' n' t h k = absurd k
+kept-high D (fin s m e) (inf u) p n p' n' t h k = absurd (exact-finite (fin s m e) (inf u) t .second)
+kept-high D (fin s m e) (fin u l d) p n p' n' t h k =
+    let x = fin s m e in
+    let y = fin u l d in
+    upper-mono (add binary64 x y) ONE D (plus x + plus y) (minus x + minus y) (p + p') (n + n') one-pos (simp add-mul (omega arith)) (kept x y t .1)
+
+-- ---- the sum, kept or moved
+
+-- a test that is made holds, or it does not
+tested : (b : Bool) → b ≡ true → T b
+tested true e = tt
+tested false e = absurd (false≢true e)
+
+low-sum : (D : ℕ) (x y : Float) (p n p' n' : ℕ) → T (fits binary64 x) → T (fits binary64 y) → Lower D x p n → Lower D y p' n' → Lower D (lowSum x y) (p + p') (n + n')
+low-sum D x y p n p' n' f g h k = go (exactSum x y) refl
+  where
+    go : (b : Bool) → exactSum x y ≡ b → Lower D (cond b (add binary64 x y) (nextDown (add binary64 x y))) (p + p') (n + n')
+    go true e = kept-low D x y p n p' n' (tested (exactSum x y) e) h k
+    go false e = add-low D x y p n p' n' f g h k
+
+high-sum : (D : ℕ) (x y : Float) (p n p' n' : ℕ) → T (fits binary64 x) → T (fits binary64 y) → Upper D x p n → Upper D y p' n' → Upper D (highSum x y) (p + p') (n + n')
+high-sum D x y p n p' n' f g h k = go (exactSum x y) refl
+  where
+    go : (b : Bool) → exactSum x y ≡ b → Upper D (cond b (add binary64 x y) (nextUp (add binary64 x y))) (p + p') (n + n')
+    go true e = kept-high D x y p n p' n' (tested (exactSum x y) e) h k
+    go false e = add-high D x y p n p' n' f g h k
+
+low-fits : (x y : Float) → T (fits binary64 (lowSum x y))
+low-fits x y = cond-fits binary64 (exactSum x y) (add binary64 x y) (nextDown (add binary64 x y)) (add-fits binary64 x y) (down-fits (add binary64 x y))
+
+high-fits : (x y : Float) → T (fits binary64 (highSum x y))
+high-fits x y = cond-fits binary64 (exactSum x y) (add binary64 x y) (nextUp (add binary64 x y)) (add-fits binary64 x y) (up-fits (add binary64 x y))
+
 pub in-add : (D : ℕ) (x y : Interval) (p n p' n' : ℕ) → In D x p n → In D y p' n' → In D (addI x y) (p + p') (n + n')
 unfolding addI
 in-add D x y p n p' n' h k =
-    checked-in D (p + p') (n + n') (nextDown (add binary64 (x .lo) (y .lo))) (nextUp (add binary64 (x .hi) (y .hi))) (down-fits (add binary64 (x .lo) (y .lo))) (up-fits (add binary64 (x .hi) (y .hi)))
-    (λ _. add-low D (x .lo) (y .lo) p n p' n' (h .lo-held) (k .lo-held) (h .low) (k .low))
-    (λ _. add-high D (x .hi) (y .hi) p n p' n' (h .hi-held) (k .hi-held) (h .high) (k .high))
+    checked-in D (p + p') (n + n') (lowSum (x .lo) (y .lo)) (highSum (x .hi) (y .hi)) (low-fits (x .lo) (y .lo)) (high-fits (x .hi) (y .hi))
+    (λ _. low-sum D (x .lo) (y .lo) p n p' n' (h .lo-held) (k .lo-held) (h .low) (k .low))
+    (λ _. high-sum D (x .hi) (y .hi) p n p' n' (h .hi-held) (k .hi-held) (h .high) (k .high))
 
 -- ---- the difference is the sum with -y
 pub neg-lower : (D : ℕ) (x : Float) (p n : ℕ) → Upper D x p n → Lower D (neg x) n p
@@ -110,11 +173,11 @@ neg-upper D (fin true m e) p n h = omega arith
 neg-upper D (fin false m e) p n h = omega arith
 
 pub in-sub : (D : ℕ) (x y : Interval) (p n p' n' : ℕ) → In D x p n → In D y p' n' → In D (subI x y) (p + n') (n + p')
-unfolding sub subI
+unfolding subI
 in-sub D x y p n p' n' h k =
-    checked-in D (p + n') (n + p') (nextDown (sub binary64 (x .lo) (y .hi))) (nextUp (sub binary64 (x .hi) (y .lo))) (down-fits (sub binary64 (x .lo) (y .hi))) (up-fits (sub binary64 (x .hi) (y .lo)))
-    (λ _. add-low D (x .lo) (neg (y .hi)) p n n' p' (h .lo-held) (neg-fits binary64 (y .hi) (k .hi-held)) (h .low) (neg-lower D (y .hi) p' n' (k .high)))
-    (λ _. add-high D (x .hi) (neg (y .lo)) p n n' p' (h .hi-held) (neg-fits binary64 (y .lo) (k .lo-held)) (h .high) (neg-upper D (y .lo) p' n' (k .low)))
+    checked-in D (p + n') (n + p') (lowSum (x .lo) (neg (y .hi))) (highSum (x .hi) (neg (y .lo))) (low-fits (x .lo) (neg (y .hi))) (high-fits (x .hi) (neg (y .lo)))
+    (λ _. low-sum D (x .lo) (neg (y .hi)) p n n' p' (h .lo-held) (neg-fits binary64 (y .hi) (k .hi-held)) (h .low) (neg-lower D (y .hi) p' n' (k .high)))
+    (λ _. high-sum D (x .hi) (neg (y .lo)) p n n' p' (h .hi-held) (neg-fits binary64 (y .lo) (k .lo-held)) (h .high) (neg-upper D (y .lo) p' n' (k .low)))
 
 -- ---- -x
 pub in-neg : (D : ℕ) (x : Interval) (p n : ℕ) → In D x p n → In D (negI x) n p
@@ -125,7 +188,7 @@ in-neg D x p n h =
     (λ _. neg-upper D (x .lo) p n (h .low))
 
 -- ---- a point holds its number
-pub in-point : (x : Float) → T (fits binary64 x) → T (lib.Ieee.Scale.finite x) → In ONE (pointI x) (plus x) (minus x)
+pub in-point : (x : Float) → T (fits binary64 x) → T (finite x) → In ONE (pointI x) (plus x) (minus x)
 unfolding pointI
 in-point nan f h = absurd h
 in-point (inf s) f h = absurd h

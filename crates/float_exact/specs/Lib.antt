@@ -1,0 +1,4 @@
+pub mod Exact
+pub mod Worked
+pub mod Grid
+pub mod Laws

@@ -1,0 +1,3 @@
+pub mod SignsBy
+pub mod Decided
+pub mod Kept
