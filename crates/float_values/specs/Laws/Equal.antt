@@ -46,7 +46,7 @@ eq-le : (x y : Float) → T (eq x y) → T (le x y)
 unfolding le
 eq-le x y h = or-right (lt x y) (eq x y) h
 
-le-le-eq : (x y : Float) → T (le x y) → T (le y x) → T (eq x y)
+pub le-le-eq : (x y : Float) → T (le x y) → T (le y x) → T (eq x y)
 unfolding le
 le-le-eq x y h k = elim (or-split (lt x y) (eq x y) h) [ inl t ↦ absurd (lt-le-clash x y t k) | inr t ↦ t ]
 

@@ -58,10 +58,6 @@ pub eq-le : (x y : Float) → T (eq x y) → T (le x y)
 unfolding le
 eq-le x y h = or-right (lt x y) (eq x y) h
 
-pub eq-of : (x y : Float) → T (le x y) → T (le y x) → T (eq x y)
-unfolding le
-eq-of x y h k = elim (or-split (lt x y) (eq x y) h) [ inl l ↦ absurd (lt-le-clash x y l k) | inr e ↦ e ]
-
 -- what is not `<=` is `<`, the other way round
 pub lt-of : (x y : Float) → T (not (isNan x)) → T (not (isNan y)) → (T (le y x) → ⊥) → T (lt x y)
 unfolding le

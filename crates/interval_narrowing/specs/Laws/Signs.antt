@@ -8,9 +8,10 @@ use Rattle.interval_arithmetic.specs.declared.Interval.{Interval}
 use Rattle.interval_arithmetic.specs.declared.Sign.{Sign}
 use Rattle.interval_arithmetic.specs.declared.Sign.the-variants.{Negative, Zero, Positive, Unresolved}
 use Rattle.interval_arithmetic.specs.Ops.{zeroF, pickSign, signI}
+use Rattle.float_values.specs.Laws.Equal.{le-le-eq}
 use Rattle.float_values.specs.Laws.Adjacent.{eq-back, lt-le-clash}
 use Rattle.interval_narrowing.specs.Narrow.{Within}
-use Rattle.interval_narrowing.specs.Laws.Order.{trans-le, eq-le, eq-of, lt-le, before, after}
+use Rattle.interval_narrowing.specs.Laws.Order.{trans-le, eq-le, lt-le, before, after}
 
 abbrev pick : Bool → Bool → Bool → Sign
 pick p q z = pickSign p Positive (pickSign q Negative (pickSign z Zero Unresolved))
@@ -63,4 +64,4 @@ sign-narrow x x' h n = picked (lt zeroF lo) (lt hi zeroF) (eq lo zeroF && eq hi 
         let d : T (le zeroF hi) = trans-le zeroF lo hi a (h .sound) in
         and-i (not (lt zeroF lo)) (not (lt hi zeroF) && (eq lo zeroF && eq hi zeroF)) (no-lt zeroF lo c)
         (and-i (not (lt hi zeroF)) (eq lo zeroF && eq hi zeroF) (no-lt hi zeroF d)
-        (and-i (eq lo zeroF) (eq hi zeroF) (eq-of lo zeroF c a) (eq-of hi zeroF b d)))
+        (and-i (eq lo zeroF) (eq hi zeroF) (le-le-eq lo zeroF c a) (le-le-eq hi zeroF b d)))
