@@ -47,7 +47,7 @@ pub rest : {A : Type 0} (l : List A) (n : ℕ) → take (length l - n) (drop n l
 rest l n = take-all (length l - n) (drop n l) (simp length-drop (omega arith))
 
 -- a table's part of the memory has room for its used records
-rows-fit : {A : Type 0} (l : List A) (from : ℕ) (strides room : List ℕ) (k n : ℕ) → k < 10 → n ≤ word room k → base from strides room 10 ≤ length l
+pub rows-fit : {A : Type 0} (l : List A) (from : ℕ) (strides room : List ℕ) (k n : ℕ) → k < 10 → n ≤ word room k → base from strides room 10 ≤ length l
     → (recordAt from strides room k 0 ≤ length l) × (word strides k * n ≤ length (drop (recordAt from strides room k 0) l))
 unfolding base
 rows-fit l from strides room k n h g f =
@@ -72,11 +72,11 @@ pub table-begins : (room w : List ℕ) (x : List Float) (k : ℕ) → Sized room
 table-begins room w x k s h =
     (rows-fit w 10 wordStrides room k (word w k) h (s .counts k h) (s .words) .0, rows-fit x 1 realStrides room k (word w k) h (s .counts k h) (s .reals) .0)
 
-words-row : (room w : List ℕ) (k i : ℕ) → row (drop (wordAt room k 0) w) (word wordStrides k) i ≡ wordsOf room w k i
+pub words-row : (room w : List ℕ) (k i : ℕ) → row (drop (wordAt room k 0) w) (word wordStrides k) i ≡ wordsOf room w k i
 unfolding row wordsOf
 words-row room w k i = let e : wordAt room k 0 + word wordStrides k * i ≡ wordAt room k i = omega arith in rw (drop-drop, e)
 
-reals-row : (room : List ℕ) (x : List Float) (k i : ℕ) → row (drop (realAt room k 0) x) (word realStrides k) i ≡ realsOf room x k i
+pub reals-row : (room : List ℕ) (x : List Float) (k i : ℕ) → row (drop (realAt room k 0) x) (word realStrides k) i ≡ realsOf room x k i
 unfolding row realsOf
 reals-row room x k i = let e : realAt room k 0 + word realStrides k * i ≡ realAt room k i = omega arith in rw (drop-drop, e)
 

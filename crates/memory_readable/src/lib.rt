@@ -1,5 +1,5 @@
 // For callers: `readable`, the test of refusal 9, and `lent_ok`. The capacities, the lent memory and the used counts agree, and every used record passes its own test.
-// Inner: the functions that test a part, which ask that the parts before it passed.
+// Inner: the functions that test a part, which ask that the parts before it passed; and `words_row` and `reals_row`, a record among its table's own words and floats.
 use memory_layout::layout::real_at;
 use memory_layout::layout::real_stride;
 use memory_layout::layout::reals_needed;
@@ -20,7 +20,7 @@ ghost use Rattle.memory_layout.specs.TableRows.{row, TableRows, rowsOk};
 const LARGEST: [usize; 10] = [64, 128, 128, 512, 512, 4096, 2048, 2048, 2048, 512];
 
 // The i-th part of n words, and of n floats.
-fn words_row(w: &[u32], n: usize, i: usize) -> &[u32]
+pub fn words_row(w: &[u32], n: usize, i: usize) -> &[u32]
     requires { ⌜ n * i + n ≤ length (now w) ⌝ }
     ensures { λ r. ⌜ now r ≡ row (now (w .entry)) n i ⌝ }
 {
@@ -29,7 +29,7 @@ fn words_row(w: &[u32], n: usize, i: usize) -> &[u32]
     &w[at..end]
 }
 
-fn reals_row(x: &[f64], n: usize, i: usize) -> &[f64]
+pub fn reals_row(x: &[f64], n: usize, i: usize) -> &[f64]
     requires { ⌜ n * i + n ≤ length (now x) ⌝ }
     ensures { λ r. ⌜ now r ≡ row (now (x .entry)) n i ⌝ }
 {

@@ -1,11 +1,12 @@
 -- Laws of `over`: what reads the same, and what reads as written. Assumes nothing.
 use Prim.Native.Nat.{ℕ, zero, suc, _+_, _-_, _≤_, _<_}
 use native.Mathlib.Nat.{zero-add, suc-add, add-zero, add-sub-of-le}
+use native.Mathlib.Numerals.{add-one}
 use native.Mathlib.Omega.{arith}
-use mathlib.Core.Path.{_≡_, refl, sym, ap, _∙_}
-use mathlib.Core.List.{List, [], _∷_, _++_, append-assoc}
-use lib.ListN.{length, getD, take, drop, set, length-append, length-drop, length-set, take-append-drop, List·getD-append}
-use lib.Seq.{length-take-le, take-nil, take-length, take-append-le, drop-append-le, take-at, drop-at, drop-append-add, getD-take, getD-drop, drop-drop, take-take, take-add, set-append-left, append-snoc, drop-cons}
+use mathlib.Core.Path.{_≡_, sym, ap, _∙_}
+use mathlib.Core.List.{List, [], _∷_, _++_, append-assoc, append-nil}
+use lib.ListN.{length, getD, take, drop, set, length-append, length-drop, length-set, take-append-drop, drop-of-length-le, List·getD-append}
+use lib.Seq.{length-take-le, take-nil, take-append-le, drop-append-le, take-at, drop-at, drop-append-add, getD-take, getD-drop, drop-drop, take-take, take-add, set-append-left, append-snoc, drop-cons, sets-eq}
 use Rattle.memory_writes.specs.Put.{over}
 
 one-further : (at n : ℕ) → at + (n + 1) ≡ suc (at + n)
@@ -106,6 +107,12 @@ module _ {A : Type 0} where
   over-none at l =
       append-assoc (take at l) [] (drop (at + 0) l) ∙ ap (λ (n : ℕ). take at l ++ drop n l) (add-zero at) ∙ take-append-drop at l
 
+  pub over-whole : (a l : List A) → length a ≡ length l → over 0 a l ≡ a
+  unfolding over
+  over-whole a l e =
+      let z : 0 + length a ≡ length a = zero-add (length a) in
+      ap (λ (n : ℕ). a ++ drop n l) z ∙ ap (λ (r : List A). a ++ r) (drop-of-length-le l {i = length a} (omega arith)) ∙ append-nil a
+
   pub over-same : (at n : ℕ) (l : List A) → at + n ≤ length l → over at (take n (drop at l)) l ≡ l
   unfolding over
   over-same at n l h =
@@ -114,6 +121,28 @@ module _ {A : Type 0} where
       ap (λ (m : ℕ). take at l ++ take n (drop at l) ++ drop (at + m) l) f
       ∙ ap (λ (r : List A). r ++ drop (at + n) l) (sym (take-add at n l))
       ∙ take-append-drop (at + n) l
+
+  -- what is written behind what was written
+  pub over-behind : (at : ℕ) (a b l : List A) → at + length (a ++ b) ≤ length l → over (at + length a) b (over at a l) ≡ over at (a ++ b) l
+  unfolding over
+  over-behind at a b l h =
+      let e : length (a ++ b) ≡ length a + length b = length-append a b in
+      let f : length (take at l ++ a) ≡ at + length a = head-length at a l (omega arith) in
+      let p : at + length a + length b ≡ at + length (a ++ b) = omega arith in
+      ap (λ (r : List A). r ++ b ++ drop (at + length a + length b) (over at a l)) (take-at (take at l ++ a) (drop (at + length a) l) (at + length a) f)
+      ∙ ap (λ (r : List A). take at l ++ a ++ b ++ r) (drop-over at (at + length a + length b) a l (omega arith) (omega arith))
+      ∙ ap (λ (n : ℕ). take at l ++ a ++ b ++ drop n l) p
+      ∙ ap (λ (r : List A). r ++ drop (at + length (a ++ b)) l) (append-assoc (take at l) a b)
+
+  -- ---- stores
+
+  pub one-store : (l : List A) (at : ℕ) (a : A) → at + 1 ≤ length l → set l at a ≡ over at (a ∷ []) l
+  unfolding over
+  one-store l at a h = sets-eq (a ∷ []) l at h
+
+  pub two-stores : (l : List A) (at : ℕ) (a b : A) → at + 2 ≤ length l → set (set l at a) (at + 1) b ≡ over at (a ∷ b ∷ []) l
+  unfolding over
+  two-stores l at a b h = ap (λ (n : ℕ). set (set l at a) n b) (add-one at) ∙ sets-eq (a ∷ b ∷ []) l at h
 
   -- ---- a store within what was written
 

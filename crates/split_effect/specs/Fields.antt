@@ -17,10 +17,9 @@ use Rattle.memory_layout.specs.Layout.{word, real}
 use Rattle.memory_layout.specs.Decode.{listAt, edgeOf}
 use Rattle.memory_layout.specs.Readable.{ownOk, edgeOk}
 use Rattle.memory_writes.specs.Put.{over}
-use Rattle.memory_writes.specs.Over.{length-over, part-behind, entry-before, entry-behind, entry-written}
+use Rattle.memory_writes.specs.Over.{length-over, part-behind, entry-before, entry-behind, entry-written, over-behind}
 use Rattle.edit_lists.specs.Place.{withList}
 use Rattle.edit_lists.specs.Records.{edge-list, word-before, word-length}
-use Rattle.split_lists.specs.BesideLaws.{over-behind}
 use Rattle.split_pieces.specs.Pieces.{secondFields}
 
 -- the same stands for each entry

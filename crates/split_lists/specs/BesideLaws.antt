@@ -1,43 +1,20 @@
--- Laws of `over`, of places and of joined lists, turn by turn. Assumes nothing.
+-- Laws of places and of joined lists, turn by turn. Assumes nothing.
 use Prim.Native.Nat.{ℕ, suc, _+_, _-_, _≤_, _<_}
 use native.Mathlib.Numerals.{add-one}
 use native.Mathlib.Omega.{arith}
 use mathlib.Core.Path.{_≡_, refl, sym, ap, _∙_}
 use mathlib.Core.List.{List, [], _∷_, _++_, append-assoc}
 use lib.ListN.{length, getD, take, drop, set, length-append, length-drop, take-append-drop}
-use lib.Seq.{sets-eq, take-suc, take-all, drop-cons, take-at, length-take-le, take-append-le}
+use lib.Seq.{take-suc, take-all, drop-cons, length-take-le, take-append-le}
 use borrow.Author.Tests.{eq-eqb, ne-eqb, lt-ltb, le-ltb}
 use Rattle.meaning.specs.Lists.{place, joined}
 use Rattle.meaning_list_laws.specs.Lists.{joined-append, joined-snoc, drop-end}
 use Rattle.memory_layout.specs.Layout.{word}
 use Rattle.memory_layout.specs.Decode.{listAt}
 use Rattle.memory_writes.specs.Put.{over}
-use Rattle.memory_writes.specs.Over.{length-over, take-over, drop-over, drop-at-over, part-written, over-none}
+use Rattle.memory_writes.specs.Over.{length-over, take-over, drop-at-over, part-written, over-none, over-behind, one-store}
 use Rattle.split_lists.specs.Beside.{entriesFor}
 use Rattle.split_lists.specs.BesideFacts.{Written}
-
--- ---- stores
-
-pub one-store : (w : List ℕ) (q a : ℕ) → q + 1 ≤ length w → set w q a ≡ over q (a ∷ []) w
-unfolding over
-one-store w q a h = sets-eq (a ∷ []) w q h
-
-pub two-stores : (w : List ℕ) (q a b : ℕ) → q + 2 ≤ length w → set (set w q a) (q + 1) b ≡ over q (a ∷ b ∷ []) w
-unfolding over
-two-stores w q a b h = ap (λ (n : ℕ). set (set w q a) n b) (add-one q) ∙ sets-eq (a ∷ b ∷ []) w q h
-
--- what is written behind what was written
-pub over-behind : (at : ℕ) (a b l : List ℕ) → at + length (a ++ b) ≤ length l → over (at + length a) b (over at a l) ≡ over at (a ++ b) l
-unfolding over
-over-behind at a b l h =
-    let e : length (a ++ b) ≡ length a + length b = length-append a b in
-    let g : length (take at l) ≡ at = length-take-le at l (omega arith) in
-    let f : length (take at l ++ a) ≡ at + length a = length-append (take at l) a ∙ ap (λ (n : ℕ). n + length a) g in
-    let p : at + length a + length b ≡ at + length (a ++ b) = omega arith in
-    ap (λ (r : List ℕ). r ++ b ++ drop (at + length a + length b) (over at a l)) (take-at (take at l ++ a) (drop (at + length a) l) (at + length a) f)
-    ∙ ap (λ (r : List ℕ). take at l ++ a ++ b ++ r) (drop-over at (at + length a + length b) a l (omega arith) (omega arith))
-    ∙ ap (λ (n : ℕ). take at l ++ a ++ b ++ drop n l) p
-    ∙ ap (λ (r : List ℕ). r ++ drop (at + length (a ++ b)) l) (append-assoc (take at l) a b)
 
 -- ---- places
 

@@ -1,11 +1,11 @@
 -- Laws of the writers: turns of their loops, and records written whole. Assumes nothing.
 use Prim.Native.Nat.{ℕ, zero, suc, _+_, _≤_, _<_}
-use native.Mathlib.Nat.{zero-add, add-zero, lt-of-le-of-lt}
+use native.Mathlib.Nat.{add-zero, lt-of-le-of-lt}
 use native.Mathlib.Numerals.{add-one}
 use native.Mathlib.Omega.{arith}
 use mathlib.Core.Path.{_≡_, refl, sym, ap, _∙_}
 use mathlib.Core.List.{List, [], _∷_, _++_, map}
-use lib.ListN.{length, getD, take, drop, set, length-map, drop-of-length-le}
+use lib.ListN.{length, getD, take, set, length-map}
 use lib.Seq.{take-suc, length-take-le, take-all}
 use Rattle.meaning.specs.Lists.{run}
 use Rattle.meaning_list_laws.specs.Lists.{length-run}
@@ -13,23 +13,11 @@ use Rattle.memory_layout.specs.Layout.{word, wordsNeeded, wordsOf}
 use Rattle.memory_layout.specs.Fit.{Inside}
 use Rattle.memory_layout.specs.Laws.{words-length}
 use Rattle.memory_writes.specs.Put.{over, putWords}
-use Rattle.memory_writes.specs.Over.{length-over, over-none}
-use Rattle.split_lists.specs.BesideLaws.{one-store, over-behind}
+use Rattle.memory_writes.specs.Over.{length-over, over-none, over-whole, over-behind, one-store}
 use Rattle.split_lists.specs.Pass.{putAll}
 use Rattle.split_lists.specs.Laws.{all-long}
 use Rattle.split_pieces.specs.Pieces.{newFinWords, secondFields}
 use Rattle.split_pieces.specs.Facts.{Slots, secondRoom}
-
--- a list written whole
-append-none : {A : Type 0} (a : List A) → a ++ [] ≡ a
-append-none [] = refl
-append-none (y ∷ a) = ap (λ (r : List _). y ∷ r) (append-none a)
-
-pub over-whole : {A : Type 0} (a l : List A) → length a ≡ length l → over 0 a l ≡ a
-unfolding over
-over-whole {A} a l e =
-    let z : 0 + length a ≡ length a = zero-add (length a) in
-    ap (λ (n : ℕ). a ++ drop n l) z ∙ ap (λ (r : List A). a ++ r) (drop-of-length-le l {i = length a} (omega arith)) ∙ append-none a
 
 -- ---- word p of each fin
 

@@ -1,4 +1,4 @@
-use Rattle.split_pieces.specs.Laws.{over-whole}
+use Rattle.memory_writes.specs.Over.{over-whole}
 use Rattle.memory_writes.specs.Put.{over}
 use Rattle.memory_layout.specs.Entries.{listOf}
 use lib.ListN.{length}

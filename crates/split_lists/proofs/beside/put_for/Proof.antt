@@ -5,7 +5,8 @@ use native.Mathlib.Omega.{arith}
 use mathlib.Core.Path.{_≡_, refl, sym}
 use lib.ListN.{length, length-set}
 use Rattle.meaning.specs.Lists.{place}
-use Rattle.split_lists.specs.BesideLaws.{one-store, two-stores, not-old, not-own, after-it, before-it}
+use Rattle.memory_writes.specs.Over.{one-store, two-stores}
+use Rattle.split_lists.specs.BesideLaws.{not-old, not-own, after-it, before-it}
 use Rattle.split_lists.proofs.beside.put_for.Statement.{statement}
 use Rattle.split_lists.proofs.beside.put_for.Tie as tie
 
