@@ -1,4 +1,4 @@
-/* Lays out the trial stone, asks all that the header has, splits an edge, and is refused. What it must print is the file `stdout` beside it. */
+/* Lays out the trial stone, asks all that the header has, splits an edge, keeps it as bytes, and is refused. What it must print is the file `stdout` beside it. */
 #include <string.h>
 
 #include "stone.h"
@@ -101,6 +101,26 @@ static void again(void)
     free(floats);
 }
 
+/* The model as bytes: written, emptied, read back, and written again, which must give the same bytes. */
+static void kept(void)
+{
+    size_t length[1], again[1];
+    done(brunskerl_image_length(LENT, &length), "the length of the image");
+    uint8_t *image = malloc(length[0]), *other = malloc(length[0]);
+    if (image == NULL || other == NULL)
+        exit(2);
+    told("a list one byte too short", brunskerl_write_image(LENT, image, length[0] - 1, &again));
+    done(brunskerl_write_image(LENT, image, length[0], &again), "the image");
+    done(brunskerl_make(LENT, 1), "make");
+    told("an image without its last byte", brunskerl_read_image(LENT, image, length[0] - 1));
+    done(brunskerl_read_image(LENT, image, length[0]), "the model read back");
+    done(brunskerl_write_image(LENT, other, length[0], &again), "the image of what was read");
+    int same = again[0] == length[0] && memcmp(image, other, length[0]) == 0;
+    printf("an image of %zu bytes, read back and written again: %s\n", length[0], same ? "the same bytes" : "other bytes");
+    free(image);
+    free(other);
+}
+
 /* The lists, entry by entry, and single records. */
 static void entries(void)
 {
@@ -139,6 +159,7 @@ int main(void)
     split(0, 1.0 / 4096);
     split(12, 0.5);
     split(0, 0.25);
+    kept();
     walks();
     measured();
     report();

@@ -11,8 +11,12 @@ enum { SIZE = 1 << 20, PAINT = 0xa5, ABOVE = 128 };
 static _Alignas(4096) unsigned char stack[SIZE];
 
 static uint32_t ids[16], code;
-static size_t counts[3];
+static size_t counts[3], length[1];
 static double floats[6];
+
+/* The trial stone's image, written before each call. */
+static uint8_t image[4096];
+static size_t kept[1];
 
 #define SLOTS(k) (uint32_t(*)[k]) ids
 #define REALS(k) (double(*)[k]) floats
@@ -66,6 +70,9 @@ CALL(edge_parameter_bounds, 0, REALS(2))
 CALL(split_line_edge, 0, 0.25, SLOTS(3))
 CALL(check_body, 0, 1, 3, EDGES, ids, 16, &counts)
 CALL(fit_to_saw, 0, EDGES, SLOTS(1))
+CALL(image_length, &length)
+CALL(write_image, image, sizeof image, &length)
+CALL(read_image, image, kept[0])
 
 static const struct {
     const char *name;
@@ -78,7 +85,7 @@ static const struct {
     ROW(set_loop), ROW(set_fin), ROW(set_edge), ROW(set_vertex), ROW(set_curve), ROW(set_surface), ROW(set_fin_geometry), ROW(contains),
     ROW(list_entry), ROW(put_entry), ROW(append_entry), ROW(strike_entry), ROW(body_faces), ROW(body_edges), ROW(body_vertices),
     ROW(fin_vertices), ROW(body_bounding_box), ROW(body_volume), ROW(edge_parameter_bounds), ROW(split_line_edge), ROW(check_body),
-    ROW(fit_to_saw), ROW(make),
+    ROW(fit_to_saw), ROW(image_length), ROW(write_image), ROW(read_image), ROW(make),
 };
 
 /* Makes the call, and gives how far below this frame it went. */
@@ -110,6 +117,7 @@ int main(int argc, char **argv)
     int failed = 0;
     for (size_t i = 0; i < sizeof calls / sizeof *calls; i++) {
         lay_out();
+        done(brunskerl_write_image(LENT, image, sizeof image, &kept), "image");
         size_t k = i;
         pthread_t thread;
         pthread_attr_t attributes;

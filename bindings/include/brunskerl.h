@@ -157,6 +157,16 @@ uint32_t brunskerl_check_body(BRUNSKERL_MEMORY, size_t body, uint32_t geometry, 
  * 8 for short marks, 2. */
 uint32_t brunskerl_fit_to_saw(BRUNSKERL_MEMORY, size_t body, uint8_t *faces, size_t f, uint8_t *edges, size_t e, uint32_t (*fit)[1]);
 
+/* The model as bytes, to be kept: docs/IMAGE.md has the format. One model has one image, whatever the capacities are and whatever lies where it says
+ * nothing. The length in bytes: 9. The image, put in the front of `bytes`, and its length: 9, 8 where b is less than that; the bytes behind it stay.
+ * Reading replaces the model in the lent memory. What the memory held is not tested, so that none need be made there before: 9 where the capacities
+ * or lengths are wrong, 9 for bytes that are not exactly one image, 8 where a table has fewer slots than the image has records. The counts, the
+ * precision and the image's records are written; the slots behind them and the places behind each list's end stay. Ids are not tested, as
+ * everywhere. An image does not say what the capacities were, and holds no check sum: a byte that has changed can make it another model's image. */
+uint32_t brunskerl_image_length(BRUNSKERL_MEMORY, size_t (*length)[1]);
+uint32_t brunskerl_write_image(BRUNSKERL_MEMORY, uint8_t *bytes, size_t b, size_t (*length)[1]);
+uint32_t brunskerl_read_image(BRUNSKERL_MEMORY_OUT, const uint8_t *bytes, size_t b);
+
 #ifdef __cplusplus
 }
 #endif

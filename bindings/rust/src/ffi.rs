@@ -42,6 +42,8 @@ calls! {
     ) -> u32;
     brunskerl_fit_to_saw(body: usize, faces: *mut u8, f: usize, edges: *mut u8, e: usize, fit: *mut [u32; 1]) -> u32;
     brunskerl_body_volume(body: usize, faces: *mut u8, f: usize, volume: *mut [f64; 1]) -> u32;
+    brunskerl_image_length(length: *mut [usize; 1]) -> u32;
+    brunskerl_write_image(bytes: *mut u8, b: usize, length: *mut [usize; 1]) -> u32;
     ;
     brunskerl_make(precision: f64) -> u32;
     brunskerl_insert_body(value: *const [u32; 1], id: *mut [u32; 1]) -> u32;
@@ -69,4 +71,5 @@ calls! {
     brunskerl_append_entry(list: usize, id: usize, entry: u32) -> u32;
     brunskerl_split_line_edge(edge: usize, fraction: f64, ids: *mut [u32; 3]) -> u32;
     brunskerl_strike_entry(list: usize, id: usize, place: usize) -> u32;
+    brunskerl_read_image(bytes: *const u8, b: usize) -> u32;
 }

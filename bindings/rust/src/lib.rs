@@ -9,6 +9,8 @@
 //! precision and tolerances of at least 2^-100; floats as a program finds them at its start (rounded to the nearest, no flush to zero). A call takes
 //! less than 128 KB of the thread's stack.
 //!
+//! [`Model::save`] gives a model as bytes, to be kept, and [`Model::load`] takes it back.
+//!
 //! The example `lintel` builds a box, checks it, splits an edge and prints the report.
 
 mod directions;
@@ -70,17 +72,52 @@ macro_rules! insert {
 }
 
 impl Model {
-    /// An empty model of these capacities, each at most that of [`LARGEST`], with a session precision.
-    pub fn new(room: [usize; 10], precision: f64) -> Result<Self, Refusal> {
+    /// Memory of these capacities, with no model in it yet.
+    fn memory(room: [usize; 10]) -> Result<Self, Refusal> {
         if room.iter().zip(LARGEST).any(|(n, most)| *n > most) {
             return Err(Refusal::Unreadable);
         }
-        let mut model = Self {
+        Ok(Self {
             room,
             words: vec![0; needed(10, WORDS, room)],
             reals: vec![0.0; needed(1, REALS, room)],
-        };
+        })
+    }
+
+    /// An empty model of these capacities, each at most that of [`LARGEST`], with a session precision.
+    pub fn new(room: [usize; 10], precision: f64) -> Result<Self, Refusal> {
+        let mut model = Self::memory(room)?;
         tell!(model, brunskerl_make(precision)).map(|()| model)
+    }
+
+    // ---- images: the model as bytes, to be kept
+
+    /// The image of the model; docs/IMAGE.md has the format. One model has one image. The capacities are not in it.
+    ///
+    /// It is never refused: a model's memory is written to by the calls alone, which leave it such that it can be read.
+    pub fn save(&self) -> Vec<u8> {
+        let mut length = [0];
+        Refusal::of(ask!(self, brunskerl_image_length(&mut length))).expect("a model can be read");
+        let mut image = vec![0; length[0]];
+        Refusal::of(ask!(self, brunskerl_write_image(image.as_mut_ptr(), image.len(), &mut length))).expect("an image has its length");
+        image
+    }
+
+    /// The model of an image, in the largest capacities. [`Refusal::Unreadable`] for bytes that are not exactly one image: cut off, with bytes left over,
+    /// or with anything in them that [`Model::save`] does not write.
+    ///
+    /// An image does not say its capacities: what was refused for want of room may be accepted in these.
+    ///
+    /// Ids are not tested, and an image holds no check sum: what it says of a stone is as sound as the model was that it was made of.
+    pub fn load(image: &[u8]) -> Result<Self, Refusal> {
+        Self::load_in(LARGEST, image)
+    }
+
+    /// The same in these capacities, each at most that of [`LARGEST`], else [`Refusal::Unreadable`]; then [`Refusal::NoRoom`] where the image has more
+    /// records of a table than that.
+    pub fn load_in(room: [usize; 10], image: &[u8]) -> Result<Self, Refusal> {
+        let mut model = Self::memory(room)?;
+        tell!(model, brunskerl_read_image(image.as_ptr(), image.len())).map(|()| model)
     }
 
     /// The session precision.

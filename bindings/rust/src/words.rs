@@ -47,7 +47,7 @@ impl fmt::Display for Refusal {
             Self::NotSolid => "refused: the body is not a solid",
             Self::Unresolved => "refused: the geometry is not carried, or a sign is in doubt",
             Self::NoRoom => "refused: no room is left in a table or list",
-            Self::Unreadable => "refused: the tables cannot be read",
+            Self::Unreadable => "refused: the tables or the image cannot be read",
         })
     }
 }

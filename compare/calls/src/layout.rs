@@ -41,6 +41,29 @@ impl PartialEq for Lent {
     }
 }
 
+/// Of each tag in the records of a table: its place and the greatest that is known.
+pub fn tags(k: usize) -> &'static [(usize, u32)] {
+    match k {
+        0 => &[(0, 4)],
+        1 => &[(1, 1)],
+        3 => &[(0, 1), (2, 1), (4, 1), (6, 1)],
+        5 => &[(2, 1), (3, 1)],
+        6 => &[(0, 1), (2, 1), (4, 1), (6, 1)],
+        7 => &[(0, 1)],
+        8 | 9 => &[(0, 2)],
+        _ => &[],
+    }
+}
+
+/// Of a table's tolerance: the place of its tag, and its own among the floats.
+pub fn tolerance(k: usize) -> Option<(usize, usize)> {
+    match k {
+        6 => Some((6, 0)),
+        7 => Some((0, 3)),
+        _ => None,
+    }
+}
+
 fn needed(from: usize, strides: &[usize; 10], room: &[usize; 10]) -> usize {
     from + strides.iter().zip(room).map(|(s, n)| s * n).sum::<usize>()
 }
@@ -144,42 +167,30 @@ impl Lent {
         lent
     }
 
+    /// The part of 01's test that asks nothing of what the memory holds: capacities that 01 has, and memory that is
+    /// long enough for them.
+    pub fn spacious(&self) -> bool {
+        let Self { room, words, reals } = self;
+        room.iter().zip(LARGEST).all(|(&n, most)| n <= most)
+            && words.len() >= needed(10, &WORDS, room)
+            && reals.len() >= needed(1, &REALS, room)
+    }
+
     /// 01's test of refusal 9.
     pub fn readable(&self) -> bool {
-        let Self { room, words, reals } = self;
-        if room.iter().zip(LARGEST).any(|(&n, most)| n > most)
-            || words.len() < needed(10, &WORDS, room)
-            || reals.len() < needed(1, &REALS, room)
-            || (0..10).any(|k| words[k] as usize > room[k])
-        {
+        if !self.spacious() || (0..10).any(|k| self.words[k] as usize > self.room[k]) {
             return false;
         }
-        let precision = reals[0];
+        let precision = self.reals[0];
         precision.is_finite() && precision > 0.0 && (0..10).all(|k| self.table_readable(k))
     }
 
     fn table_readable(&self, k: usize) -> bool {
-        // Of each tag in the records of the table: its place and the greatest that is known.
-        let tags: &[(usize, u32)] = match k {
-            0 => &[(0, 4)],
-            1 => &[(1, 1)],
-            3 => &[(0, 1), (2, 1), (4, 1), (6, 1)],
-            5 => &[(2, 1), (3, 1)],
-            6 => &[(0, 1), (2, 1), (4, 1), (6, 1)],
-            7 => &[(0, 1)],
-            8 | 9 => &[(0, 2)],
-            _ => &[],
-        };
-        // Of the tolerance: the place of its tag, and its own among the floats.
-        let tolerance = match k {
-            6 => Some((6, 0)),
-            7 => Some((0, 3)),
-            _ => None,
-        };
+        let tolerance = tolerance(k);
         (0..self.words[k] as usize).all(|i| {
             let (at, real) = (self.word_at(k, i), self.real_at(k, i));
             let ok = |t: f64| t.is_finite() && t >= 0.0;
-            tags.iter().all(|&(p, most)| self.words[at + p] <= most)
+            tags(k).iter().all(|&(p, most)| self.words[at + p] <= most)
                 && LISTS
                     .iter()
                     .filter(|list| list.0 == k)

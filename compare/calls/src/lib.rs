@@ -1,8 +1,12 @@
 //! Whole models in the Rust and in lent memory, asked the same through the station's calls.
 
 pub mod edits;
+pub mod image;
+pub mod image_wrong;
+pub mod images;
 pub mod layout;
 pub mod measures;
+pub mod noise;
 pub mod operations;
 pub mod ours;
 pub mod queries;

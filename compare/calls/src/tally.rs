@@ -89,6 +89,11 @@ impl Tally {
 
     /// Prints all counts; the status is 1 where anything differs.
     pub fn end(self) -> ExitCode {
+        self.end_of("models")
+    }
+
+    /// The same, of other things than models.
+    pub fn end_of(self, things: &str) -> ExitCode {
         for (what, cases) in &self.met {
             let cases: Vec<_> = cases.iter().map(|(c, n)| format!("{c} {n}")).collect();
             println!("{what}: {}", cases.join(", "));
@@ -100,7 +105,7 @@ impl Tally {
         for (what, n) in &self.listed {
             println!("listed: {what} {n}");
         }
-        println!("{} models, {} differ", self.models, self.differing);
+        println!("{} {things}, {} differ", self.models, self.differing);
         if self.differing == 0 {
             ExitCode::SUCCESS
         } else {

@@ -1,0 +1,5 @@
+pub mod Ends
+pub mod Found
+pub mod Head
+pub mod Whole
+pub mod Turns

@@ -1,0 +1,9 @@
+pub mod Numbers
+pub mod Starts
+pub mod Records
+pub mod Sizes
+pub mod Tables
+pub mod Models
+pub mod Machines
+pub mod Held
+pub mod Statements

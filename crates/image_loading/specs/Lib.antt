@@ -1,0 +1,4 @@
+pub mod Laid
+pub mod Facts
+pub mod Steps
+pub mod Laws
