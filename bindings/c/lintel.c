@@ -1,4 +1,4 @@
-/* Lays out the trial stone, asks all that the header has, splits an edge, keeps it as bytes, and is refused. What it must print is the file `stdout` beside it. */
+/* Lays out the trial stone, asks all that the header has, splits an edge, keeps it as bytes, is refused, and does so by both versions. What it must print is the file `stdout` beside it. */
 #include <string.h>
 
 #include "stone.h"
@@ -101,17 +101,19 @@ static void again(void)
     free(floats);
 }
 
-/* The model as bytes: written, emptied, read back, and written again, which must give the same bytes. */
+/* The model as bytes: written, emptied as a model of the other version, read back, and written again, which must give the same bytes. */
 static void kept(void)
 {
     size_t length[1], again[1];
+    uint32_t version[1];
+    done(brunskerl_version(LENT, &version), "version");
     done(brunskerl_image_length(LENT, &length), "the length of the image");
     uint8_t *image = malloc(length[0]), *other = malloc(length[0]);
     if (image == NULL || other == NULL)
         exit(2);
     told("a list one byte too short", brunskerl_write_image(LENT, image, length[0] - 1, &again));
     done(brunskerl_write_image(LENT, image, length[0], &again), "the image");
-    done(brunskerl_make(LENT, 1), "make");
+    done(brunskerl_make(LENT, 1, 3 - version[0]), "make");
     told("an image without its last byte", brunskerl_read_image(LENT, image, length[0] - 1));
     done(brunskerl_read_image(LENT, image, length[0]), "the model read back");
     done(brunskerl_write_image(LENT, other, length[0], &again), "the image of what was read");
@@ -127,7 +129,8 @@ static void entries(void)
     uint32_t entry[1], is[1], ends_of[4], fin[4];
     double precision[1];
     done(brunskerl_precision(LENT, &precision), "precision");
-    printf("precision %g\n", precision[0]);
+    done(brunskerl_version(LENT, &is), "version");
+    printf("precision %g, version %u\n", precision[0], (unsigned)is[0]);
     done(brunskerl_list_entry(LENT, 6, 0, 3, &entry), "fin 3 of loop 0");
     done(brunskerl_fin_vertices(LENT, entry[0], &ends_of), "its ends");
     printf("loop 0 ends with fin %u, from vertex %u to vertex %u\n", (unsigned)entry[0], (unsigned)ends_of[1], (unsigned)ends_of[3]);
@@ -146,10 +149,25 @@ static void entries(void)
     done(brunskerl_set_fin(LENT, 0, WORDS(4, fin[0], fin[1], fin[2], 0)), "fin 0 without");
 }
 
+/* Edge 0 has a tolerance of its own below the session's, and lies off the plane of face 0 by more than the one and less than the other. */
+static void between(uint32_t version)
+{
+    uint32_t is[1];
+    clear();
+    lay_out(version);
+    done(brunskerl_set_edge(LENT, 0, WORDS(7, 1, 0, 1, 1, 1, 0, 1), FLOATS(1, 0.0001)), "an own tolerance");
+    done(brunskerl_set_surface(LENT, 0, WORDS(1, 1), FLOATS(6, 0, 0, 0.0003, 0, 0, -1)), "the plane of face 0");
+    report();
+    split(0, 0.25);
+    kept();
+    done(brunskerl_version(LENT, &is), "version");
+    printf("it is of version %u\n", (unsigned)is[0]);
+}
+
 int main(void)
 {
     uint32_t id[1];
-    lay_out();
+    lay_out(1);
     walks();
     measured();
     report();
@@ -171,15 +189,18 @@ int main(void)
     done(brunskerl_strike_entry(LENT, 6, 0, 4), "the last fin of loop 0 struck");
     report();
     told("a word too few", brunskerl_contains(&room, words, n - 1, reals, m, 0, 0, &id));
-    told("an empty model of precision 0", brunskerl_make(LENT, 0));
+    told("an empty model of precision 0", brunskerl_make(LENT, 0, 1));
+    told("an empty model of version 3", brunskerl_make(LENT, 0.001, 3));
     /* Nothing is wrong with an empty body, a solid with its void region alone, and it is not fit to saw. */
-    done(brunskerl_make(LENT, 0.001), "make");
+    done(brunskerl_make(LENT, 0.001, 1), "make");
     done(brunskerl_insert_body(LENT, WORDS(1, 3), &id), "body");
     done(brunskerl_insert_region(LENT, WORDS(2, 0, 0), &id), "region");
     done(brunskerl_append_entry(LENT, 0, 0, 0), "region of the body");
     report();
     double volume[1];
     told("the volume of the empty body", brunskerl_body_volume(LENT, 0, FACES, &volume));
+    between(1);
+    between(2);
     clear();
     return 0;
 }

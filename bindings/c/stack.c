@@ -22,8 +22,9 @@ static size_t kept[1];
 #define REALS(k) (double(*)[k]) floats
 #define CALL(name, ...) static void name(void) { brunskerl_##name(LENT, __VA_ARGS__); }
 
-CALL(make, 0.001)
+CALL(make, 0.001, 2)
 CALL(precision, REALS(1))
+CALL(version, SLOTS(1))
 CALL(body, 0, SLOTS(2))
 CALL(region, 0, SLOTS(3))
 CALL(shell, 0, SLOTS(4))
@@ -79,7 +80,7 @@ static const struct {
     void (*call)(void);
 } calls[] = {
 #define ROW(name) {#name, name}
-    ROW(precision), ROW(body), ROW(region), ROW(shell), ROW(face), ROW(loop), ROW(fin), ROW(edge), ROW(vertex), ROW(curve), ROW(surface),
+    ROW(precision), ROW(version), ROW(body), ROW(region), ROW(shell), ROW(face), ROW(loop), ROW(fin), ROW(edge), ROW(vertex), ROW(curve), ROW(surface),
     ROW(insert_body), ROW(insert_region), ROW(insert_shell), ROW(insert_face), ROW(insert_loop), ROW(insert_fin), ROW(insert_edge),
     ROW(insert_vertex), ROW(insert_curve), ROW(insert_surface), ROW(set_body), ROW(set_region), ROW(set_shell), ROW(set_face),
     ROW(set_loop), ROW(set_fin), ROW(set_edge), ROW(set_vertex), ROW(set_curve), ROW(set_surface), ROW(set_fin_geometry), ROW(contains),
@@ -116,7 +117,7 @@ int main(int argc, char **argv)
 {
     int failed = 0;
     for (size_t i = 0; i < sizeof calls / sizeof *calls; i++) {
-        lay_out();
+        lay_out(2);
         done(brunskerl_write_image(LENT, image, sizeof image, &kept), "image");
         size_t k = i;
         pthread_t thread;

@@ -55,8 +55,8 @@ static const uint32_t uses[6][4] = {{4, 1, 5, 0}, {2, 7, 3, 6}, {0, 9, 2, 8}, {1
 /* A corner of each face; its normal is along an axis, one of length 1, as every normal and direction must be. */
 static const unsigned bases[6] = {0, 4, 0, 2, 0, 1};
 
-/* The ids are slot numbers from 0, so that what was put in at place i is record i. */
-static void lay_out(void)
+/* The stone as a model of a version. The ids are slot numbers from 0, so that what was put in at place i is record i. */
+static void lay_out(uint32_t version)
 {
     uint32_t id[1];
     double p[3], way[3];
@@ -66,7 +66,7 @@ static void lay_out(void)
     reals = calloc(m, sizeof *reals);
     if (words == NULL || reals == NULL)
         exit(2);
-    done(brunskerl_make(LENT, 0.001), "make");
+    done(brunskerl_make(LENT, 0.001, version), "make");
     done(brunskerl_insert_body(LENT, WORDS(1, 3), &id), "body");
     for (uint32_t i = 0; i < 2; i++) {
         done(brunskerl_insert_region(LENT, WORDS(2, 0, i), &id), "region");

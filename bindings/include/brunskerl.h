@@ -4,14 +4,18 @@
  * BRUNSKERL_REALS say how long they must be. Tables, in the order of the capacities: bodies, regions, shells, faces, loops, fins,
  * edges, vertices, curves, surfaces. Ids are slot numbers from 0; nothing is removed.
  *
+ * A model names the version of the drawing practice that it goes by, 1 or 2, and keeps it; only to make and to read an image can put another in its
+ * place. The version says which tolerance of an edge or a vertex is in effect in the split, the report and fit to saw: in version 1 its own, else the
+ * session's, which is half the precision; in version 2 the larger of its own and the session's, and the session's where it has none of its own.
+ *
  * What a caller owes. Each pointer is valid, aligned for its type and not null, also where its length is 0, and the length that follows it is the
  * true one. No part that a call writes to overlaps another part of that call. While it runs, nothing else writes to its parts, nor reads those that it
  * writes to. Floats are as a program finds them at its start: rounded to the nearest, no flush to zero (which -ffast-math would set), no traps. The
  * station keeps nothing between calls, no address either, so that calls on other memory may run beside each other. A call takes less than 128 KB of
  * stack, and no memory but that and what is lent. From the C library the station needs memcpy and memset.
  *
- * The answers are those of the Rust that the station is ported from where coordinates are finite and at most 2^40 in size, the precision and
- * tolerances at least 2^-100, and each direction and normal is a vector divided by its length. That is the caller's part: the station takes a
+ * The answers about a model of version 1 are those of the Rust that the station is ported from where coordinates are finite and at most 2^40 in size, the
+ * precision and tolerances at least 2^-100, and each direction and normal is a vector divided by its length. That is the caller's part: the station takes a
  * direction as it is given. On a line whose direction is not of length 1 an edge has other parameters, and a split can put its vertex beyond the edge's
  * end; from a plane whose normal is not, distances are as many times too long or too short. Divide by hypot(hypot(x, y), z), as the Rust
  * does; the Rust crate beside this header has makers of lines and planes from points.
@@ -48,17 +52,19 @@
 #define BRUNSKERL_LISTS_OUT const size_t (*room)[10], uint32_t *words, size_t n, const double *reals, size_t m
 
 /* How many words and floats a model of these capacities takes. */
-#define BRUNSKERL_WORDS(r) (10 + 18 * (r)[0] + 19 * (r)[1] + 836 * (r)[2] + 24 * (r)[3] + 1026 * (r)[4] + 4 * (r)[5] + 16 * (r)[6] + (r)[7] + (r)[8] + (r)[9])
+#define BRUNSKERL_WORDS(r) (11 + 18 * (r)[0] + 19 * (r)[1] + 836 * (r)[2] + 24 * (r)[3] + 1026 * (r)[4] + 4 * (r)[5] + 16 * (r)[6] + (r)[7] + (r)[8] + (r)[9])
 #define BRUNSKERL_REALS(r) (1 + (r)[6] + 4 * (r)[7] + 6 * (r)[8] + 6 * (r)[9])
 
 #ifdef __cplusplus
 extern "C" {
 #endif
 
-/* An empty model with a session precision: 9 where the capacities or lengths are wrong, 1 for a precision that is none. */
-uint32_t brunskerl_make(BRUNSKERL_MEMORY_OUT, double precision);
-/* The session precision: 9. */
+/* An empty model with a session precision, of a version: 9 where the capacities or lengths are wrong, 1 for a precision that is none, 1 for a version
+ * other than 1 and 2. */
+uint32_t brunskerl_make(BRUNSKERL_MEMORY_OUT, double precision, uint32_t version);
+/* The session precision, and the version: 9. */
 uint32_t brunskerl_precision(BRUNSKERL_MEMORY, double (*value)[1]);
+uint32_t brunskerl_version(BRUNSKERL_MEMORY, uint32_t (*value)[1]);
 
 /* Lookups: 9, 2. */
 uint32_t brunskerl_body(BRUNSKERL_MEMORY, size_t id, uint32_t (*value)[2]);
@@ -140,7 +146,7 @@ uint32_t brunskerl_body_volume(BRUNSKERL_MEMORY, size_t body, uint8_t *faces, si
  *   10  4 unless it is surely farther than the precision from the start and from the end
  *   11  for each fin that the edge lists, 1 where it was listed before, 1 where it names another edge, 2 for a missing loop, 1 unless the loop lists it
  *       exactly once, 2 for a missing face, 1 for no surface, 2 for a missing one, 7 for one that is no plane; then at the parameters of start, end and
- *       split, each in turn, 1 where the line is surely farther from the plane than the edge's tolerance, 7 where that is in doubt
+ *       split, each in turn, 1 where the line is surely farther from the plane than the edge's tolerance in effect, 7 where that is in doubt
  *   12  1 where a shell lists the edge among its wire edges more than once
  *   13  8 where a table or a list has no room for what the split adds */
 uint32_t brunskerl_edge_parameter_bounds(BRUNSKERL_MEMORY, size_t edge, double (*bounds)[2]);
@@ -160,8 +166,9 @@ uint32_t brunskerl_fit_to_saw(BRUNSKERL_MEMORY, size_t body, uint8_t *faces, siz
 /* The model as bytes, to be kept: docs/IMAGE.md has the format. One model has one image, whatever the capacities are and whatever lies where it says
  * nothing. The length in bytes: 9. The image, put in the front of `bytes`, and its length: 9, 8 where b is less than that; the bytes behind it stay.
  * Reading replaces the model in the lent memory. What the memory held is not tested, so that none need be made there before: 9 where the capacities
- * or lengths are wrong, 9 for bytes that are not exactly one image, 8 where a table has fewer slots than the image has records. The counts, the
- * precision and the image's records are written; the slots behind them and the places behind each list's end stay. Ids are not tested, as
+ * or lengths are wrong, 9 for bytes that are not exactly one image, 8 where a table has fewer slots than the image has records. The counts, the version,
+ * the precision and the image's records are written; the slots behind them and the places behind each list's end stay. The image of a model of version
+ * 2 begins with a record that says so; one without that record is of version 1, and one where it names anything but 2 is none. Ids are not tested, as
  * everywhere. An image does not say what the capacities were, and holds no check sum: a byte that has changed can make it another model's image. */
 uint32_t brunskerl_image_length(BRUNSKERL_MEMORY, size_t (*length)[1]);
 uint32_t brunskerl_write_image(BRUNSKERL_MEMORY, uint8_t *bytes, size_t b, size_t (*length)[1]);

@@ -14,6 +14,7 @@ macro_rules! calls {
 
 calls! {
     brunskerl_precision(value: *mut [f64; 1]) -> u32;
+    brunskerl_version(value: *mut [u32; 1]) -> u32;
     brunskerl_body(id: usize, value: *mut [u32; 2]) -> u32;
     brunskerl_region(id: usize, value: *mut [u32; 3]) -> u32;
     brunskerl_shell(id: usize, value: *mut [u32; 4]) -> u32;
@@ -45,7 +46,7 @@ calls! {
     brunskerl_image_length(length: *mut [usize; 1]) -> u32;
     brunskerl_write_image(bytes: *mut u8, b: usize, length: *mut [usize; 1]) -> u32;
     ;
-    brunskerl_make(precision: f64) -> u32;
+    brunskerl_make(precision: f64, version: u32) -> u32;
     brunskerl_insert_body(value: *const [u32; 1], id: *mut [u32; 1]) -> u32;
     brunskerl_insert_region(value: *const [u32; 2], id: *mut [u32; 1]) -> u32;
     brunskerl_insert_shell(value: *const [u32; 1], id: *mut [u32; 1]) -> u32;

@@ -5,9 +5,11 @@
 //! sound; it does not say what that was.
 //!
 //! What a caller owes: lines and planes with directions and normals of length 1, which [`Carrier::line_through`], [`Carrier::plane_through`]
-//! and their like make; for the answers to be those of the Rust that the station is ported from, finite coordinates of size at most 2^40, and a
-//! precision and tolerances of at least 2^-100; floats as a program finds them at its start (rounded to the nearest, no flush to zero). A call takes
+//! and their like make; for the answers about a model of the first version to be those of the Rust that the station is ported from, finite coordinates
+//! of size at most 2^40, and a precision and tolerances of at least 2^-100; floats as a program finds them at its start (rounded to the nearest, no flush to zero). A call takes
 //! less than 128 KB of the thread's stack.
+//!
+//! A model goes by a [`Version`] of the drawing practice, the first unless it is made [`Model::with_version`], and keeps it.
 //!
 //! [`Model::save`] gives a model as bytes, to be kept, and [`Model::load`] takes it back.
 //!
@@ -21,7 +23,7 @@ mod words;
 
 use records::optional;
 
-pub use records::{BodyKind, Carrier, Edge, Face, Fin, List, Region, Sense, Vertex};
+pub use records::{BodyKind, Carrier, Edge, Face, Fin, List, Region, Sense, Version, Vertex};
 pub use words::{Entity, Fault, Refusal};
 
 /// 01's largest tables: bodies, regions, shells, faces, loops, fins, edges, vertices, curves, surfaces.
@@ -79,15 +81,20 @@ impl Model {
         }
         Ok(Self {
             room,
-            words: vec![0; needed(10, WORDS, room)],
+            words: vec![0; needed(11, WORDS, room)],
             reals: vec![0.0; needed(1, REALS, room)],
         })
     }
 
-    /// An empty model of these capacities, each at most that of [`LARGEST`], with a session precision.
+    /// An empty model of these capacities, each at most that of [`LARGEST`], with a session precision, of the first version.
     pub fn new(room: [usize; 10], precision: f64) -> Result<Self, Refusal> {
+        Self::with_version(room, precision, Version::First)
+    }
+
+    /// The same of a version, which the model keeps.
+    pub fn with_version(room: [usize; 10], precision: f64, version: Version) -> Result<Self, Refusal> {
         let mut model = Self::memory(room)?;
-        tell!(model, brunskerl_make(precision)).map(|()| model)
+        tell!(model, brunskerl_make(precision, version as u32)).map(|()| model)
     }
 
     // ---- images: the model as bytes, to be kept
@@ -106,7 +113,8 @@ impl Model {
     /// The model of an image, in the largest capacities. [`Refusal::Unreadable`] for bytes that are not exactly one image: cut off, with bytes left over,
     /// or with anything in them that [`Model::save`] does not write.
     ///
-    /// An image does not say its capacities: what was refused for want of room may be accepted in these.
+    /// An image does not say its capacities: what was refused for want of room may be accepted in these. It says its version: one that names none is of
+    /// [`Version::First`], and so is every image from before there were two.
     ///
     /// Ids are not tested, and an image holds no check sum: what it says of a stone is as sound as the model was that it was made of.
     pub fn load(image: &[u8]) -> Result<Self, Refusal> {
@@ -124,6 +132,12 @@ impl Model {
     pub fn precision(&self) -> Result<f64, Refusal> {
         let mut value = [0.0];
         Refusal::of(ask!(self, brunskerl_precision(&mut value))).map(|()| value[0])
+    }
+
+    /// The version that the model goes by.
+    pub fn version(&self) -> Result<Version, Refusal> {
+        let mut value = [0];
+        Refusal::of(ask!(self, brunskerl_version(&mut value))).map(|()| Version::of(value[0]))
     }
 
     // ---- inserts: each gives the new record's id
@@ -578,7 +592,8 @@ impl Model {
         let Carrier::Plane { origin, normal } = self.surface(self.face(face).ok()?.surface?).ok()? else {
             return None;
         };
-        let tolerance = vertex.tolerance.unwrap_or(self.precision().ok()? / 2.0);
+        let session = self.precision().ok()? / 2.0;
+        let tolerance = self.version().ok()?.tolerance(vertex.tolerance, session);
         let way: [f64; 3] = std::array::from_fn(|i| vertex.point[i] - origin[i]);
         Some((normal[0] * way[0] + normal[1] * way[1] + normal[2] * way[2]).abs() > tolerance)
     }

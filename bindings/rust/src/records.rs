@@ -2,6 +2,37 @@
 
 use crate::{Refusal, directions};
 
+/// The version of the drawing practice that a model goes by. It says which tolerance of an edge or a vertex is in effect where an edge is split, a body
+/// checked, and where it is asked whether one is fit to saw. The session's tolerance is half the precision.
+#[derive(Clone, Copy, Debug, Default, PartialEq, Eq, Hash)]
+#[repr(u32)]
+pub enum Version {
+    /// The record's own tolerance, or the session's where it has none.
+    #[default]
+    First = 1,
+    /// The larger of the record's own tolerance and the session's, or the session's where it has none.
+    Second = 2,
+}
+
+impl Version {
+    pub(crate) fn of(number: u32) -> Self {
+        match number {
+            1 => Self::First,
+            2 => Self::Second,
+            _ => unreachable!("no model is of version {number}"),
+        }
+    }
+
+    /// The tolerance in effect, of a record's own and the session's.
+    pub(crate) fn tolerance(self, own: Option<f64>, session: f64) -> f64 {
+        match (self, own) {
+            (_, None) => session,
+            (Self::First, Some(own)) => own,
+            (Self::Second, Some(own)) => own.max(session),
+        }
+    }
+}
+
 /// A body's kind.
 #[derive(Clone, Copy, Debug, PartialEq, Eq, Hash)]
 #[repr(u32)]
@@ -90,12 +121,14 @@ pub struct Edge {
     pub start: Option<u32>,
     pub end: Option<u32>,
     pub curve: Option<u32>,
+    /// Its own; [`Version`] says which is in effect.
     pub tolerance: Option<f64>,
 }
 
 #[derive(Clone, Copy, Debug, PartialEq)]
 pub struct Vertex {
     pub point: [f64; 3],
+    /// Its own; [`Version`] says which is in effect.
     pub tolerance: Option<f64>,
 }
 

@@ -1,6 +1,8 @@
 //! The image of a model: docs/IMAGE.md once more, from that page alone, with none of the station's code. `encode` makes the bytes of a
 //! model, `decode` takes them back or refuses them.
 
+use gensolid_core::Version;
+
 /// How many records of each table an image has at most.
 pub const MOST: [usize; 10] = [64, 128, 128, 512, 512, 4096, 2048, 2048, 2048, 512];
 
@@ -9,8 +11,17 @@ pub const MARKS: [&[u8; 2]; 11] = [
     b"PR", b"BO", b"RE", b"SH", b"FA", b"LO", b"FI", b"ED", b"VE", b"CU", b"SU",
 ];
 
+/// The version's record, with which the image of a model of version 2 begins: its mark, and the number.
+pub const VERSION_MARK: &[u8; 2] = b"VN";
+pub const VERSION_RECORD: [u8; 6] = [0x56, 0x4e, 2, 0, 0, 0];
+
 /// The bytes of the precision's record.
 pub const FIRST: usize = 50;
+
+/// Where the precision's record begins in bytes that may be an image.
+pub fn begins(image: &[u8]) -> usize {
+    if image.starts_with(VERSION_MARK) { VERSION_RECORD.len() } else { 0 }
+}
 
 /// All that is not a number, as it is written.
 const NAN: u64 = 0x7ff8_0000_0000_0000;
@@ -87,6 +98,7 @@ pub enum Carrier {
 /// A model as an image keeps it. Ids may name records that are not there.
 #[derive(Clone, Debug, Default)]
 pub struct Kept {
+    pub version: Version,
     pub precision: f64,
     pub bodies: Vec<Body>,
     pub regions: Vec<Region>,
@@ -138,10 +150,18 @@ impl Kept {
         ]
     }
 
+    /// Where the tables begin in the image: behind the version's record, where there is one, and the precision's.
+    pub fn front(&self) -> usize {
+        match self.version {
+            Version::First => FIRST,
+            Version::Second => VERSION_RECORD.len() + FIRST,
+        }
+    }
+
     /// Where record i of table k begins in the image, or ends the one before it.
     pub fn place(&self, k: usize, i: usize) -> usize {
         let sizes = self.sizes();
-        FIRST + sizes[..k].iter().flatten().sum::<usize>() + sizes[k][..i].iter().sum::<usize>()
+        self.front() + sizes[..k].iter().flatten().sum::<usize>() + sizes[k][..i].iter().sum::<usize>()
     }
 }
 
@@ -252,6 +272,10 @@ impl Writer {
 /// The image of a model.
 pub fn encode(kept: &Kept) -> Vec<u8> {
     let mut to = Writer::default();
+    if kept.version == Version::Second {
+        to.bytes.extend_from_slice(VERSION_MARK);
+        to.number(2);
+    }
     to.mark(0);
     kept.used().iter().for_each(|&n| to.number(n as u32));
     to.float(kept.precision);
@@ -436,7 +460,17 @@ impl Reader<'_> {
         (0..n).map(|_| record(self)).collect()
     }
 
+    /// Version 1 where the image does not begin with a version's record, which names nothing but 2.
+    fn version(&mut self) -> Option<Version> {
+        if !self.left.starts_with(VERSION_MARK) {
+            return Some(Version::First);
+        }
+        self.take::<2>()?;
+        (self.number()? == 2).then_some(Version::Second)
+    }
+
     fn model(&mut self) -> Option<Kept> {
+        let version = self.version()?;
         self.mark(0)?;
         let mut n = [0; 10];
         for (n, most) in n.iter_mut().zip(MOST) {
@@ -447,6 +481,7 @@ impl Reader<'_> {
             return None;
         }
         let kept = Kept {
+            version,
             precision,
             bodies: self.table(n[0], Self::body)?,
             regions: self.table(n[1], Self::region)?,
@@ -498,6 +533,7 @@ mod tests {
     /// One record of each table, with lists of one entry, and what is said of neither.
     fn small() -> Kept {
         Kept {
+            version: Version::First,
             precision: 0.001,
             bodies: vec![Body {
                 kind: 3,
@@ -603,6 +639,54 @@ mod tests {
             ..Kept::default()
         };
         assert_eq!((encode(&empty).len(), empty.place(9, 0)), (50, 50));
+        let empty = Kept {
+            version: Version::Second,
+            ..empty
+        };
+        assert_eq!((encode(&empty).len(), empty.place(9, 0)), (56, 56));
+    }
+
+    /// A model of version 2 has one more record, at the front; it names 2 and stands there alone.
+    #[test]
+    fn the_version() {
+        let first = encode(&small());
+        let kept = Kept {
+            version: Version::Second,
+            ..small()
+        };
+        let second = encode(&kept);
+        assert_eq!(second, [&VERSION_RECORD[..], &first].concat());
+        assert_eq!(second[at(&kept, 0, 0)..], first[at(&small(), 0, 0)..]);
+        assert_eq!(decode(&first).expect("an image").version, Version::First);
+        assert_eq!(decode(&second).expect("an image").version, Version::Second);
+        for n in 0..second.len() {
+            assert!(decode(&second[..n]).is_err(), "{n} bytes");
+        }
+        for number in [0, 1, 3, 258, 2 << 8, 2 << 24, 1 << 31, u32::MAX] {
+            let record = [&VERSION_MARK[..], &u32::to_le_bytes(number)].concat();
+            assert!(decode(&[&record[..], &first].concat()).is_err(), "{number}");
+        }
+        for n in 1..6 {
+            assert!(decode(&[&VERSION_RECORD[..n], &first].concat()).is_err());
+        }
+        assert!(decode(&[&VERSION_RECORD[..], &second].concat()).is_err());
+        for place in [FIRST, first.len()] {
+            let (front, behind) = first.split_at(place);
+            assert!(decode(&[front, &VERSION_RECORD, behind].concat()).is_err());
+        }
+        for mark in [b"NV", b"vn", b"VE", b"PR"] {
+            assert!(decode(&[&mark[..], &second[2..]].concat()).is_err());
+        }
+    }
+
+    /// The page's least and greatest lengths.
+    #[test]
+    fn lengths() {
+        let sizes = [10, 14, 18, 34, 10, 18, 42, 38, 54, 54];
+        let entries = [16, 16, 512 + 256 + 64, 16, 1024, 0, 8, 0, 0, 0];
+        let tables: usize = (0..10).map(|k| MOST[k] * (sizes[k] + 4 * entries[k])).sum();
+        assert_eq!(FIRST + tables, 3_036_850);
+        assert_eq!(VERSION_RECORD.len() + FIRST + tables, 3_036_856);
     }
 
     #[test]

@@ -1,9 +1,9 @@
 //! Wrong stations for the images: each does as the station does and then alters the answer, the bytes or the memory. The comparison must see
 //! every one of them.
 
-use crate::image::{Carrier, Kept, MARKS, MOST, encode};
+use crate::image::{Carrier, Kept, MARKS, MOST, VERSION_MARK, VERSION_RECORD, begins, encode};
 use crate::images::{How, expected, put};
-use crate::layout::{LISTS, Lent};
+use crate::layout::{LISTS, Lent, VERSION};
 
 /// Where record i of table k begins in the image of what the memory holds.
 fn place(lent: &Lent, k: usize, i: usize) -> usize {
@@ -54,9 +54,8 @@ fn refuses(before: &Lent, number: u32, lent: &mut Lent, is_so: impl Fn(&Kept) ->
 
 /// What an image says of the records of a table.
 fn count(image: &[u8], k: usize) -> usize {
-    let count = image
-        .get(2 + 4 * k..6 + 4 * k)
-        .and_then(|n| n.try_into().ok());
+    let at = begins(image) + 2 + 4 * k;
+    let count = image.get(at..at + 4).and_then(|n| n.try_into().ok());
     count.map_or(0, |n| u32::from_le_bytes(n) as usize)
 }
 
@@ -64,7 +63,17 @@ fn eight(image: &[u8], at: usize) -> Option<[u8; 8]> {
     image.get(at..at + 8)?.try_into().ok()
 }
 
-pub const WRONGS: [(&str, How); 44] = [
+/// What an image says behind a version's record of so many bytes, where it begins with such a mark.
+fn behind(image: &[u8], n: usize) -> Option<&[u8]> {
+    image.strip_prefix(&VERSION_MARK[..]).and_then(|_| image.get(n..))
+}
+
+/// The image as one of version 2, of what is said behind the version's record.
+fn as_second(rest: &[u8]) -> Vec<u8> {
+    [&VERSION_RECORD[..], rest].concat()
+}
+
+pub const WRONGS: [(&str, How); 57] = [
     (
         "gives a length one too great",
         How::Length(|_, number, length| {
@@ -337,7 +346,7 @@ pub const WRONGS: [(&str, How); 44] = [
         "writes the precision before it refuses",
         How::Read(|_, number, lent, image| {
             if number != 0
-                && let (Some(real), Some(new)) = (lent.reals.first_mut(), eight(image, 42))
+                && let (Some(real), Some(new)) = (lent.reals.first_mut(), eight(image, begins(image) + 42))
             {
                 *real = f64::from_le_bytes(new);
             }
@@ -448,7 +457,7 @@ pub const WRONGS: [(&str, How); 44] = [
             // With one record fewer, or two, of the last table that it has some of.
             let last = (0..10)
                 .rev()
-                .map(|k| 2 + 4 * k)
+                .map(|k| begins(image) + 2 + 4 * k)
                 .find(|&at| image.get(at).is_some_and(|&n| n > 0));
             let mut other = image.to_vec();
             for _ in 0..2 {
@@ -470,7 +479,7 @@ pub const WRONGS: [(&str, How); 44] = [
         "takes any precision",
         How::Read(|_, number, lent, image| {
             let mut other = image.to_vec();
-            put(&mut other, 42, &1.0f64.to_le_bytes());
+            put(&mut other, begins(image) + 42, &1.0f64.to_le_bytes());
             taken_for(number, lent, &other)
         }),
     ),
@@ -530,6 +539,116 @@ pub const WRONGS: [(&str, How); 44] = [
                 put(other, at, if zero { &[0; 8] } else { &[] });
                 zero
             })
+        }),
+    ),
+    (
+        "gives a length without the version's record",
+        How::Length(|lent, number, length| {
+            if number == 0 && lent.words[VERSION] == 2 {
+                *length -= 6;
+            }
+            number
+        }),
+    ),
+    (
+        "leaves the version's record out",
+        How::Write(|lent, number, bytes, length| {
+            if number == 0 && lent.words[VERSION] == 2 {
+                bytes.copy_within(6..*length, 0);
+                *length -= 6;
+            }
+            number
+        }),
+    ),
+    (
+        "writes a version's record for a model of version 1",
+        How::Write(|lent, number, bytes, length| {
+            if number == 0 && lent.words[VERSION] == 1 && bytes.len() >= *length + 6 {
+                bytes.copy_within(..*length, 6);
+                put(bytes, 0, &[0x56, 0x4e, 1, 0, 0, 0]);
+                *length += 6;
+            }
+            number
+        }),
+    ),
+    (
+        "writes the version's record behind the precision's",
+        How::Write(|lent, number, bytes, _| {
+            if number == 0 && lent.words[VERSION] == 2 {
+                bytes[..56].rotate_left(6);
+            }
+            number
+        }),
+    ),
+    (
+        "takes a version's record that names version 1",
+        How::Read(|_, number, lent, image| match behind(image, 6) {
+            Some(rest) if image[2..6] == [1, 0, 0, 0] => taken_for(number, lent, rest),
+            _ => number,
+        }),
+    ),
+    (
+        "takes a version's record of any number for one of version 2",
+        How::Read(|_, number, lent, image| match behind(image, 6) {
+            Some(rest) => taken_for(number, lent, &as_second(rest)),
+            None => number,
+        }),
+    ),
+    (
+        "reads the lowest byte of the version alone",
+        How::Read(|_, number, lent, image| match behind(image, 6) {
+            Some(rest) if image[2] == 2 => taken_for(number, lent, &as_second(rest)),
+            _ => number,
+        }),
+    ),
+    (
+        "takes a version's record that is a byte short",
+        How::Read(|_, number, lent, image| match behind(image, 5) {
+            Some(rest) => taken_for(number, lent, &as_second(rest)),
+            None => number,
+        }),
+    ),
+    (
+        "takes a version's record twice",
+        How::Read(|_, number, lent, image| match behind(image, 6) {
+            Some(rest) if rest.starts_with(VERSION_MARK) => taken_for(number, lent, rest),
+            _ => number,
+        }),
+    ),
+    (
+        "takes another mark for the version's",
+        How::Read(|_, number, lent, image| match image.get(6..) {
+            Some(rest) if image[2..6] == VERSION_RECORD[2..] => taken_for(number, lent, &as_second(rest)),
+            _ => number,
+        }),
+    ),
+    (
+        "leaves the version as it was",
+        How::Read(|before, number, lent, _| {
+            if number == 0 {
+                lent.words[VERSION] = before.words[VERSION];
+            }
+            number
+        }),
+    ),
+    (
+        "reads every image as one of version 1",
+        How::Read(|_, number, lent, _| {
+            if number == 0 {
+                lent.words[VERSION] = 1;
+            }
+            number
+        }),
+    ),
+    (
+        "writes the version before it refuses",
+        How::Read(|_, number, lent, image| {
+            if number != 0
+                && let Some(word) = lent.words.get_mut(VERSION)
+            {
+                *word = if image.starts_with(VERSION_MARK) { 2 } else { 1 };
+            }
+            number
         }),
     ),
 ];

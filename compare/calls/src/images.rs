@@ -3,8 +3,10 @@
 
 use std::ops::Range;
 
+use gensolid_core::Version;
+
 use crate::image::{Body, Carrier, Edge, Face, Fin, Kept, Loop, Region, Shell, Vertex, decode};
-use crate::layout::{LISTS, Lent};
+use crate::layout::{LISTS, Lent, VERSION};
 use crate::ours::Room;
 
 #[link(name = "station", kind = "static")]
@@ -224,6 +226,7 @@ impl Kept {
             }
         };
         Self {
+            version: if lent.words[VERSION] == 2 { Version::Second } else { Version::First },
             precision: lent.reals[0],
             bodies: used(0).map(body).collect(),
             regions: used(1).map(region).collect(),
@@ -262,12 +265,13 @@ fn three(ids: [Option<u32>; 3]) -> [u32; 6] {
 }
 
 impl Kept {
-    /// Lays the model over memory that has the slots for it: the counts, the precision, of each record its fields, floats and lists. All
+    /// Lays the model over memory that has the slots for it: the counts, the version, the precision, of each record its fields, floats and lists. All
     /// else stays: what lies behind the lists' ends, and the slots that the model does not use.
     pub fn over(&self, lent: &mut Lent) {
         for (word, n) in lent.words.iter_mut().zip(self.used()) {
             *word = n as u32;
         }
+        lent.words[VERSION] = self.version as u32;
         lent.reals[0] = self.precision;
         for (i, r) in self.bodies.iter().enumerate() {
             put_record(lent, 0, i, &[r.kind], &[]);

@@ -6,6 +6,10 @@ use models::plain::{Carrier, Plain};
 /// 01's largest tables.
 pub const LARGEST: [usize; 10] = [64, 128, 128, 512, 512, 4096, 2048, 2048, 2048, 512];
 
+/// Where the model's version stands among the words: behind the ten counts. The tables follow it.
+pub const VERSION: usize = 10;
+const TABLES: usize = 11;
+
 /// How many words and floats a record takes, by table.
 const WORDS: [usize; 10] = [18, 19, 836, 24, 1026, 4, 16, 1, 1, 1];
 const REALS: [usize; 10] = [0, 0, 0, 0, 0, 0, 1, 4, 6, 6];
@@ -73,7 +77,7 @@ impl Lent {
     pub fn new(room: [usize; 10], word: u32, real: f64) -> Self {
         Self {
             room,
-            words: vec![word; needed(10, &WORDS, &room)],
+            words: vec![word; needed(TABLES, &WORDS, &room)],
             reals: vec![real; needed(1, &REALS, &room)],
         }
     }
@@ -81,7 +85,7 @@ impl Lent {
     /// Where record i of table k begins among the words.
     pub fn word_at(&self, k: usize, i: usize) -> usize {
         let before: usize = (0..k).map(|k| WORDS[k] * self.room[k]).sum();
-        10 + before + WORDS[k] * i
+        TABLES + before + WORDS[k] * i
     }
 
     pub fn real_at(&self, k: usize, i: usize) -> usize {
@@ -111,6 +115,7 @@ impl Lent {
         for (k, n) in plain.used().into_iter().enumerate() {
             lent.words[k] = n as u32;
         }
+        lent.words[VERSION] = plain.version as u32;
         lent.reals[0] = plain.precision;
         let optional = |id: Option<usize>| id.map_or([0, 0], |id| [1, id as u32]);
         let own = |t: Option<f64>| (u32::from(t.is_some()), t.unwrap_or(0.0));
@@ -172,17 +177,20 @@ impl Lent {
     pub fn spacious(&self) -> bool {
         let Self { room, words, reals } = self;
         room.iter().zip(LARGEST).all(|(&n, most)| n <= most)
-            && words.len() >= needed(10, &WORDS, room)
+            && words.len() >= needed(TABLES, &WORDS, room)
             && reals.len() >= needed(1, &REALS, room)
     }
 
-    /// 01's test of refusal 9.
+    /// 01's test of refusal 9, and W-211's: a version that no model is made with.
     pub fn readable(&self) -> bool {
         if !self.spacious() || (0..10).any(|k| self.words[k] as usize > self.room[k]) {
             return false;
         }
         let precision = self.reals[0];
-        precision.is_finite() && precision > 0.0 && (0..10).all(|k| self.table_readable(k))
+        matches!(self.words[VERSION], 1 | 2)
+            && precision.is_finite()
+            && precision > 0.0
+            && (0..10).all(|k| self.table_readable(k))
     }
 
     fn table_readable(&self, k: usize) -> bool {

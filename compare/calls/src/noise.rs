@@ -1,11 +1,11 @@
 //! Memory full of garbage, and models in it: what a model says lies in its places, and garbage in all others.
 
 use models::damage::{damage, stray};
-use models::plain::{Carrier, Edge, Fin, Plain, Vertex};
+use models::plain::{Carrier, Edge, Fin, Plain, Version, Vertex};
 use models::random::Random;
 
 use crate::image::Kept;
-use crate::layout::{LARGEST, LISTS, Lent, tags, tolerance};
+use crate::layout::{LARGEST, LISTS, Lent, VERSION, tags, tolerance};
 
 /// Floats at the borders: zeros, subnormals, the largest, the infinities, and what is not a number in several patterns.
 pub const BORDERS: [u64; 16] = [
@@ -115,6 +115,7 @@ fn counts(random: &mut Random) -> [usize; 10] {
 pub fn wild(random: &mut Random) -> Lent {
     let used = counts(random);
     let mut lent = garbage(room(used, random), random);
+    lent.words[VERSION] = random.pick(&[1, 2]);
     lent.reals[0] = random.pick(&[0.001, 1.0, 5.0e-324, f64::MAX, f64::MIN_POSITIVE]);
     for (k, n) in used.into_iter().enumerate() {
         lent.words[k] = n as u32;
@@ -151,6 +152,7 @@ fn record(lent: &mut Lent, k: usize, i: usize, random: &mut Random) {
 /// A model with every table and every list as full as they can be.
 pub fn full(random: &mut Random) -> Lent {
     let mut lent = garbage(LARGEST, random);
+    lent.words[VERSION] = 1;
     lent.reals[0] = 0.001;
     for (k, n) in LARGEST.into_iter().enumerate() {
         lent.words[k] = n as u32;
@@ -273,6 +275,7 @@ pub fn shaped(random: &mut Random) -> (Lent, String) {
             *carrier = Carrier::Other;
         }
     }
+    plain.version = random.pick(&[Version::First, Version::Second]);
     let tight = Lent::holding(&plain, plain.used(), 0, 0.0);
     if !tight.readable() {
         return (tight, told);

@@ -1,6 +1,6 @@
 //! A model as a sequence of operations of the Rust's `RawEditor`, carried out on both sides.
 
-use gensolid_core::{Error, Result, Tolerance};
+use gensolid_core::{Error, Result};
 use gensolid_geom::{BCurve, ParamRange};
 use gensolid_topo as topo;
 use models::original::{self, KINDS, Names};
@@ -342,13 +342,6 @@ fn mark(model: &mut Model, names: &Names, fin: usize) -> Result<()> {
     model.raw().set_fin_geometry(names.fins[fin], geometry)
 }
 
-/// An own tolerance, as the Rust makes it.
-fn own(model: &Model, tolerance: Option<f64>) -> Result<Option<Tolerance>> {
-    tolerance
-        .map(|t| Tolerance::new(t, model.precision()))
-        .transpose()
-}
-
 /// Inserts a record without lists. Lines and planes come from the finished model, since the Rust would
 /// make other directions of those that it has made.
 fn insert_record(
@@ -404,7 +397,7 @@ fn insert_record(
             }
         }
         Record::Edge([start, end, curve], tolerance) => {
-            let tolerance = own(model, tolerance)?;
+            let tolerance = original::own(tolerance)?;
             model.raw().insert_edge(topo::Edge {
                 fins: vec![],
                 start: start.map(|id| names.vertices[id]),
@@ -414,7 +407,7 @@ fn insert_record(
             })?;
         }
         Record::Vertex(point, tolerance) => {
-            let tolerance = own(model, tolerance)?;
+            let tolerance = original::own(tolerance)?;
             let point = original::point(point);
             model
                 .raw()
@@ -470,7 +463,7 @@ fn set_record(model: &mut Model, names: &Names, i: usize, record: &Record) -> Re
             }
         }
         Record::Edge([start, end, curve], tolerance) => {
-            let tolerance = own(model, tolerance)?;
+            let tolerance = original::own(tolerance)?;
             let mut raw = model.raw();
             let r = raw.edge_mut(names.edges[i])?;
             r.start = start.map(|id| names.vertices[id]);
@@ -479,7 +472,7 @@ fn set_record(model: &mut Model, names: &Names, i: usize, record: &Record) -> Re
             r.tolerance = tolerance;
         }
         Record::Vertex(point, tolerance) => {
-            let tolerance = own(model, tolerance)?;
+            let tolerance = original::own(tolerance)?;
             let mut raw = model.raw();
             let r = raw.vertex_mut(names.vertices[i])?;
             r.point = original::point(point);

@@ -1,7 +1,7 @@
 //! The station's calls, as a C program links them, and a model read back through them alone.
 
 use models::plain::{
-    Body, Carrier, Edge, Face, Fin, Kind, Loop, Plain, Region, Shell, Triple, Vertex,
+    Body, Carrier, Edge, Face, Fin, Kind, Loop, Plain, Region, Shell, Triple, Version, Vertex,
 };
 
 use crate::layout::Lent;
@@ -17,6 +17,7 @@ unsafe extern "C" {
         reals: *mut f64,
         m: usize,
         precision: f64,
+        version: u32,
     ) -> u32;
     fn brunskerl_list_entry(
         room: Room,
@@ -36,6 +37,14 @@ unsafe extern "C" {
         reals: *const f64,
         m: usize,
         value: *mut [f64; 1],
+    ) -> u32;
+    fn brunskerl_version(
+        room: Room,
+        words: *const u32,
+        n: usize,
+        reals: *const f64,
+        m: usize,
+        value: *mut [u32; 1],
     ) -> u32;
 }
 
@@ -115,6 +124,9 @@ pub const WROTE: u32 = 1000;
 /// Nor this: an insert has given another id than the next.
 pub const WRONG_ID: u32 = 1001;
 
+/// Nor this: a version that is none was given.
+pub const WRONG_VERSION: u32 = 1002;
+
 /// The value, or the refusal's number where the slots are as they were.
 pub fn answer<T>(number: u32, value: T, untouched: bool) -> Result<T, u32> {
     match (number, untouched) {
@@ -164,7 +176,7 @@ fn all<T>(mut lookup: impl FnMut(usize) -> Result<T, u32>) -> Result<Vec<T>, u32
 }
 
 impl Lent {
-    pub fn make(&mut self, precision: f64) -> u32 {
+    pub fn make(&mut self, precision: f64, version: u32) -> u32 {
         // SAFETY: the call writes to the lent memory alone and keeps no address.
         unsafe {
             brunskerl_make(
@@ -174,6 +186,7 @@ impl Lent {
                 self.reals.as_mut_ptr(),
                 self.reals.len(),
                 precision,
+                version,
             )
         }
     }
@@ -192,6 +205,22 @@ impl Lent {
             )
         };
         answer(number, value[0], value == [UNTOUCHED_REAL; 1])
+    }
+
+    pub fn version(&self) -> Result<u32, u32> {
+        let mut value = [UNTOUCHED; 1];
+        // SAFETY: as above.
+        let number = unsafe {
+            brunskerl_version(
+                &self.room,
+                self.words.as_ptr(),
+                self.words.len(),
+                self.reals.as_ptr(),
+                self.reals.len(),
+                &mut value,
+            )
+        };
+        answer(number, value[0], value == [UNTOUCHED; 1])
     }
 
     pub fn entry(&self, j: usize, i: usize, place: usize) -> Result<u32, u32> {
@@ -248,6 +277,11 @@ impl Lent {
     /// All tables, by the calls alone; or the first refusal that is not expected.
     pub fn read(&self) -> Result<Plain, u32> {
         Ok(Plain {
+            version: match self.version()? {
+                1 => Version::First,
+                2 => Version::Second,
+                _ => return Err(WRONG_VERSION),
+            },
             precision: self.precision()?,
             bodies: all(|i| {
                 let [kind, n] = self.body_value(i)?;

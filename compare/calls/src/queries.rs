@@ -1,4 +1,4 @@
-//! What the station is asked about single records, as a C program links it, each answer as numbers: 0 and
+//! What the station is asked about single records and for the version, as a C program links it, each answer as numbers: 0 and
 //! the value's, or the refusal alone.
 
 use models::plain::{bits, optional};
@@ -47,6 +47,8 @@ pub enum Query {
     Bounds(usize),
     /// `contains`, by class and id: 1 or 0.
     Contains(u32, usize),
+    /// The model's version.
+    Version,
 }
 
 fn numbers<T>(answer: Result<T, u32>, value: impl FnOnce(T) -> Vec<u64>) -> Vec<u64> {
@@ -79,6 +81,7 @@ impl Query {
             Self::Ends(_) => "fin_vertices",
             Self::Bounds(_) => "edge_parameter_bounds",
             Self::Contains(..) => "contains",
+            Self::Version => "version",
         }
     }
 
@@ -112,6 +115,7 @@ impl Query {
                     vec![yes.into()]
                 })
             }
+            Self::Version => numbers(lent.version(), |version| vec![version.into()]),
         }
     }
 }

@@ -1,16 +1,16 @@
-//! Memory that the Rust has no likeness of: capacities, counts, tags, lengths and floats of any sort.
-//! What is expected of it is 01's rule alone.
+//! Memory that the Rust has no likeness of: capacities, counts, versions, tags, lengths and floats of any sort.
+//! What is expected of it is 01's rule and W-211's alone.
 
 use models::random::Random;
 
-use crate::layout::{LARGEST, LISTS, Lent};
+use crate::layout::{LARGEST, LISTS, Lent, VERSION};
 
 /// Changes the memory in one place or two, so that it is mostly unreadable.
 pub fn spoil(lent: &mut Lent, random: &mut Random) -> &'static str {
     let k = random.below(10);
     let used = lent.words[k] as usize;
     let record = (used > 0).then(|| random.below(used));
-    match (random.below(8), record) {
+    match (random.below(9), record) {
         (0, _) => {
             lent.room[k] = random.pick(&[LARGEST[k] + 1, usize::MAX, 1 << 40]);
             "a capacity above the largest"
@@ -22,7 +22,7 @@ pub fn spoil(lent: &mut Lent, random: &mut Random) -> &'static str {
         (2, _) => {
             let n = lent.words.len();
             lent.words
-                .truncate(random.pick(&[0, 9, 10, n.saturating_sub(1), n / 2]));
+                .truncate(random.pick(&[0, 9, 10, 11, n.saturating_sub(1), n / 2]));
             "words cut short"
         }
         (3, _) => {
@@ -42,6 +42,10 @@ pub fn spoil(lent: &mut Lent, random: &mut Random) -> &'static str {
                 5.0e-324,
             ]);
             "another precision"
+        }
+        (8, _) => {
+            lent.words[VERSION] = random.pick(&[0, 0, 1, 2, 3, 3, 258, 1 << 31, u32::MAX]);
+            "another version"
         }
         (5, Some(i)) => {
             let lists: Vec<_> = LISTS.iter().filter(|list| list.0 == k).collect();

@@ -41,6 +41,11 @@ impl Tally {
         self.differs = false;
     }
 
+    /// The model at hand in another form.
+    pub fn again(&mut self, told: &str) {
+        self.case = format!("{}; {told}", self.case);
+    }
+
     pub fn met(&mut self, what: &'static str, case: impl ToString) {
         *self
             .met

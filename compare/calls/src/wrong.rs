@@ -3,7 +3,7 @@
 
 use models::plain::Carrier;
 
-use crate::layout::Lent;
+use crate::layout::{Lent, VERSION};
 use crate::operations::{Operation, Record};
 use crate::queries::Query;
 
@@ -100,6 +100,48 @@ pub const WRONGS: [Wrong; 14] = [
     ),
 ];
 
+/// What a station is asked to do: to make a model of a version, or an operation.
+#[derive(Clone, Copy)]
+pub enum Step<'a> {
+    Make(u32),
+    Do(&'a Operation),
+}
+
+/// What a wrong station is, and what it does to the memory behind a step; it is given the step's number, and gives the one that it answers.
+pub type Beside = (&'static str, fn(Step, u32, &mut Lent) -> u32);
+
+fn to_version_1(lent: &mut Lent, number: u32, is_so: bool) -> u32 {
+    if number == 0 && is_so {
+        lent.words[VERSION] = 1;
+    }
+    number
+}
+
+pub const BESIDES: [Beside; 6] = [
+    ("makes every model one of version 1", |step, number, lent| {
+        to_version_1(lent, number, matches!(step, Step::Make(_)))
+    }),
+    ("makes a model of any version", |step, number, _| match step {
+        Step::Make(0 | 3..) => 0,
+        _ => number,
+    }),
+    ("writes the version before it refuses to make a model", |step, number, lent| {
+        if let (Step::Make(version), 1) = (step, number) {
+            lent.words[VERSION] = version;
+        }
+        number
+    }),
+    ("makes the model one of version 1 as it inserts", |step, number, lent| {
+        to_version_1(lent, number, matches!(step, Step::Do(Operation::Insert(_))))
+    }),
+    ("makes the model one of version 1 as it sets a record", |step, number, lent| {
+        to_version_1(lent, number, matches!(step, Step::Do(Operation::Set(..))))
+    }),
+    ("makes the model one of version 1 as it strikes an entry", |step, number, lent| {
+        to_version_1(lent, number, matches!(step, Step::Do(Operation::Strike(..))))
+    }),
+];
+
 /// What a wrong station is, and what it answers in the place of a right answer.
 pub type Misled = (&'static str, fn(&Lent, Query, &[u64]) -> Option<Vec<u64>>);
 
@@ -108,7 +150,7 @@ fn negative(lent: &Lent, fin: usize) -> bool {
     lent.words[lent.word_at(5, fin) + 2] != 0
 }
 
-pub const MISLED: [Misled; 10] = [
+pub const MISLED: [Misled; 12] = [
     ("does not turn the ends of a negative fin", |lent, query, given| match (query, given) {
         (Query::Ends(fin), [0, a, b]) if negative(lent, fin) => Some(vec![0, *b, *a]),
         _ => None,
@@ -146,6 +188,14 @@ pub const MISLED: [Misled; 10] = [
     }),
     ("gives 2 for an edge without a curve", |_, query, given| match (query, given) {
         (Query::Bounds(_), [1]) => Some(vec![2]),
+        _ => None,
+    }),
+    ("gives version 1 for every model", |_, query, given| match (query, given) {
+        (Query::Version, [0, _]) => Some(vec![0, 1]),
+        _ => None,
+    }),
+    ("counts versions from 0", |_, query, given| match (query, given) {
+        (Query::Version, [0, version]) => Some(vec![0, version - 1]),
         _ => None,
     }),
     ("holds one record more than there are", |lent, query, given| match (query, given) {

@@ -1,5 +1,6 @@
 //! Random models, sound and damaged, as plain records and in the Rust's `Model`.
 
+pub mod around;
 pub mod damage;
 pub mod original;
 pub mod plain;
@@ -8,11 +9,13 @@ pub mod shapes;
 
 use gensolid_topo::Model;
 
+use around::Own;
 use original::Names;
 use plain::Plain;
 use random::Random;
 
 /// A model, damaged, with what was done to it and edges near to that.
+#[derive(Clone)]
 pub struct Made {
     pub model: Model,
     pub plain: Plain,
@@ -83,6 +86,32 @@ pub fn unlisted(made: Made, names: &Names, random: &mut Random) -> Made {
         told,
         near: made.near,
     }
+}
+
+/// The model of the version that is asked about, with own tolerances on either side of the session's, and with planes and vertices moved to about the one or
+/// the other (W-211); none where the Rust makes no such line or plane. What is told is what was done besides.
+pub fn either(made: &Made, names: &Names, random: &mut Random) -> Option<Made> {
+    let mut plain = made.plain.clone();
+    plain.version = original::version();
+    around::tolerances(&mut plain, random);
+    let mut near = Vec::new();
+    for _ in 0..random.pick(&[0, 1, 1, 2]) {
+        near.extend(around::curve(&mut plain, random, Own::Either));
+    }
+    for _ in 0..random.pick(&[0, 1, 1, 2]) {
+        near.extend(around::plane(&mut plain, random, Own::Either));
+    }
+    if near.is_empty() {
+        near.clone_from(&made.near);
+    }
+    let model = original::build(&mut plain, names).ok()?;
+    let told = vec![format!("version {}, own tolerances on either side of the session's", plain.version as u32)];
+    Some(Made {
+        model,
+        plain,
+        told,
+        near,
+    })
 }
 
 /// Near the ends, around the precision, and no fraction at all. The bounds are an answer's numbers.

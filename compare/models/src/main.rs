@@ -13,9 +13,9 @@ use std::slice;
 use gensolid_topo::Model;
 
 use models::original::{self, Names, Told};
-use models::plain::{self, Plain, bits, list};
+use models::plain::{self, Plain, Version, bits, list};
 use models::random::Random;
-use models::{Made, Sort, fraction, made};
+use models::{Made, Sort, either, fraction, made};
 
 const HEAD: &str = "-- Models and the Rust's answers, written by compare/models.
 use mathlib.Core.Path.{_≡_, refl}
@@ -23,6 +23,7 @@ use mathlib.Core.Bool.{true, false}
 use mathlib.Core.List.{List, [], _∷_}
 use mathlib.Core.Option.{none, some}
 use Rattle.geom_lines_planes.specs.declared.tolerance.Tolerance.the-variants.{Session}
+use Rattle.geom_lines_planes.specs.declared.tolerance.Version.the-variants.{First, Second}
 use Rattle.meaning.specs.Model.{Model, acorn, wire, sheet, solid, general, positive, negative}
 use Rattle.meaning.specs.Computing.{computing}
 use Rattle.meaning.specs.Shown.{own, at, bodyR, regionR, shellR, faceR, loopR, finR, edgeR, vertexR, lineR, planeR, otherR, modelR, tables, faces, edges, vertices, ends, box, volume, report, bounds, split, behind}
@@ -166,6 +167,24 @@ impl Writer {
         self.splits(asked, random);
     }
 
+    /// The model once more, of version 2, with own tolerances on either side of the session's.
+    fn second(&mut self, made: &Made, seed: u64, number: u64) {
+        let mut random = Random::new(seed, number, 101);
+        let Some(made) = either(made, &self.names, &mut random) else {
+            return;
+        };
+        self.counts.add("models", "of version 2");
+        let asked = Asked {
+            name: format!("model-{number}-second"),
+            model: &made.model,
+            plain: &made.plain,
+            samples: 3,
+            near: made.near,
+            follow: false,
+        };
+        self.ask(&asked, &mut random);
+    }
+
     fn splits(&mut self, asked: &Asked, random: &mut Random) {
         let Asked {
             name, model, plain, ..
@@ -254,13 +273,7 @@ fn main() {
     let mut done = 0;
     let mut next = first;
     while done < count {
-        let Some(Made {
-            model,
-            plain,
-            told,
-            near,
-        }) = made(&writer.names, Sort::Small, seed, next, kept.as_deref())
-        else {
+        let Some(made) = made(&writer.names, Sort::Small, seed, next, kept.as_deref()) else {
             next += 1;
             assert!(
                 kept.is_none() || next < first + 1000,
@@ -268,25 +281,28 @@ fn main() {
             );
             continue;
         };
-        writer.counts.add("shapes", &told[0]);
+        writer.counts.add("shapes", &made.told[0]);
         writer.counts.add(
             "models",
-            match told.len() {
+            match made.told.len() {
                 1 => "sound".into(),
                 n => format!("{} damages", n - 1),
             },
         );
-        writer.text += &format!("\n-- model {next}: {}\n", told.join("; "));
+        writer.text += &format!("\n-- model {next}: {}\n", made.told.join("; "));
         let mut random = Random::new(seed, next, 100);
         let asked = Asked {
             name: format!("model-{next}"),
-            model: &model,
-            plain: &plain,
+            model: &made.model,
+            plain: &made.plain,
             samples: random.pick(&[3, 3, 3, 3, 0, 2]),
-            near,
+            near: made.near.clone(),
             follow: true,
         };
         writer.ask(&asked, &mut random);
+        if next % 3 == 0 {
+            original::by(Version::Second, || writer.second(&made, seed, next));
+        }
         done += 1;
         next += 1;
         if done % batch == 0 || done == count {

@@ -3,6 +3,7 @@
 use std::ops::Index;
 
 use gensolid_check::{CheckOptions, Fault, FaultKind, Report, check_body};
+pub use gensolid_core::versions::{Rule, by, ruled, version};
 use gensolid_core::{Arena, Error, Id, Precision, Result, Tolerance, effective_tolerance};
 use gensolid_geom::{BCurve, Circle, Curve, Line, ParamRange, Plane, Sphere, Surface};
 pub use gensolid_math::exact::published;
@@ -173,11 +174,16 @@ impl Names {
 
 // ---- there and back
 
+/// An own tolerance, made at the least precision: at the model's the Rust makes none below the session's, though it takes one that is there.
+pub fn own(tolerance: Option<f64>) -> Result<Option<Tolerance>> {
+    let least = Precision::new(f64::from_bits(1), 1.0e-11, 1.0e12)?;
+    tolerance.map(|t| Tolerance::new(t, &least)).transpose()
+}
+
 /// Builds the model. Directions and normals of `plain` become what the Rust made of them. An error
 /// is the Rust's refusal of a carrier or a tolerance.
 pub fn build(plain: &mut Plain, names: &Names) -> Result<Model> {
     let precision = Precision::new(plain.precision, 1.0e-11, 1.0e12)?;
-    let own = |tolerance: Option<f64>| tolerance.map(|t| Tolerance::new(t, &precision)).transpose();
     let mut model = Model::new(precision);
     let mut raw = model.raw();
     for r in &plain.bodies {
@@ -278,12 +284,13 @@ fn all<T, R>(names: &Ids<T>, read: impl Fn(Id<T>) -> Option<R>) -> Vec<R> {
     names.0.iter().map_while(|&id| read(id)).collect()
 }
 
-/// All tables of the Rust's model.
+/// All tables of the Rust's model, and the version that it is asked by.
 pub fn read(model: &Model, names: &Names) -> Plain {
     let three = |p: Point3| [p.x, p.y, p.z];
     let way = |v: Vec3| [v.x, v.y, v.z];
     let own = |tolerance: Option<Tolerance>| tolerance.map(Tolerance::value);
     Plain {
+        version: version(),
         precision: model.precision().linear(),
         bodies: all(&names.bodies, |id| {
             let r = model.body(id).ok()?;

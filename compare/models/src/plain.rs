@@ -3,6 +3,8 @@
 
 use std::fmt::Display;
 
+pub use gensolid_core::Version;
+
 pub type Triple = [f64; 3];
 
 #[derive(Clone, Copy, Debug, PartialEq)]
@@ -83,6 +85,7 @@ pub enum Carrier {
 
 #[derive(Clone, Debug, Default)]
 pub struct Plain {
+    pub version: Version,
     pub precision: f64,
     pub bodies: Vec<Body>,
     pub regions: Vec<Region>,
@@ -224,7 +227,7 @@ impl Kind {
 impl Plain {
     pub fn term(&self) -> String {
         [
-            format!("modelR {}", float(self.precision)),
+            format!("modelR {:?} {}", self.version, float(self.precision)),
             table(&self.bodies, |r| {
                 format!("bodyR {} {}", r.kind.name(), list(&r.regions))
             }),
@@ -308,7 +311,7 @@ impl Plain {
     /// All tables, record by record, as Shown.txt's `tables` has them.
     pub fn numbers(&self) -> Vec<Vec<Vec<u64>>> {
         vec![
-            vec![vec![bits(self.precision)]],
+            vec![vec![self.version as u64, bits(self.precision)]],
             rows(&self.bodies, |r| {
                 [vec![r.kind as u64], counted(&r.regions)].concat()
             }),

@@ -110,6 +110,17 @@ pub fn tolerance(r: &mut Random) -> Tolerance {
     }
 }
 
+/// The same, mostly equal to the session's, some floats beside it, or a few times more or less.
+pub fn tolerance_beside(r: &mut Random, session: f64) -> Tolerance {
+    let value = match r.below(4) {
+        0 => return tolerance(r),
+        1 => session,
+        2 => r.moved(session),
+        _ => session * r.pick(&[0.0, -0.0, 0.25, 0.5, 2.0, 3.0]),
+    };
+    Tolerance::new(value, &least_precision()).unwrap_or_else(|_| tolerance(r))
+}
+
 pub fn line(r: &mut Random) -> Line {
     let style = r.style();
     line_from(r, style)

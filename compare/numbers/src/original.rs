@@ -1,6 +1,7 @@
 //! What the Rust answers, by its own functions. Their numbers are those of the probe.
 
-use gensolid_core::{Error, effective_tolerance};
+use gensolid_core::versions::by;
+use gensolid_core::{Error, Version, effective_tolerance};
 use gensolid_geom::{Circle, Curve, CurveId, GeomStore, Line, Plane, Sphere, Surface, SurfaceId};
 use gensolid_math::{Frame, Interval, Point3, Sign, Vec3};
 use gensolid_topo::intervals::{dot, vector};
@@ -9,7 +10,7 @@ use crate::operands;
 use crate::random::{Random, Style};
 use crate::{Answer, By, Kind, Operation, Row};
 
-pub const OPERATIONS: [Operation; 34] = [
+pub const OPERATIONS: [Operation; 35] = [
     values("f64::next_up", 1, |r| of_float(r, f64::next_up)),
     values("f64::next_down", 1, |r| of_float(r, f64::next_down)),
     values("Interval::point", 1, interval_point),
@@ -56,6 +57,7 @@ pub const OPERATIONS: [Operation; 34] = [
     sign("apart sign", 7, apart),
     sign("off plane sign", 10, off_plane),
     sign("off curve sign", 8, off_curve),
+    values("tolerance, version 2", 3, tolerance_of_version_2),
 ];
 
 type Make = fn(&mut Random) -> Row;
@@ -374,6 +376,18 @@ fn tolerance_in_effect(r: &mut Random) -> Row {
         &[own, value, precision.linear()],
         valued(&[effective_tolerance(local, &precision)]),
     )
+}
+
+/// W-211's rule; own tolerances also at the session's, beside it and near it.
+fn tolerance_of_version_2(r: &mut Random) -> Row {
+    let precision = operands::precision(r);
+    let local = (!r.one_in(4)).then(|| operands::tolerance_beside(r, precision.default_local()));
+    let (own, value) = match local {
+        Some(tolerance) => (r.pick(&[1.0, 1.0, -1.0, f64::NAN]), tolerance.value()),
+        None => (r.pick(&[0.0, -0.0]), any_float(r)),
+    };
+    let answer = by(Version::Second, || effective_tolerance(local, &precision));
+    row(&[own, value, precision.linear()], valued(&[answer]))
 }
 
 // The store's queries.

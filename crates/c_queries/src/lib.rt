@@ -5,6 +5,7 @@ use c_values::tips_value;
 use c_values::unknown_tag;
 use memory_contains::Contained;
 use memory_contains::PrecisionFound;
+use memory_contains::VersionFound;
 use memory_layout::entries::Entry;
 use split_bounds::Bounds;
 use split_bounds::edge_parameter_bounds;
@@ -16,6 +17,7 @@ ghost use Rattle.geom_lines_planes.specs.Refuse.{_unless_, _then_};
 ghost use Rattle.meaning.specs.Walks.{endsOf};
 ghost use Rattle.memory_layout.specs.Layout.{word};
 ghost use Rattle.memory_layout.specs.Readable.{readable};
+ghost use Rattle.memory_layout.specs.Laid.{versionTag};
 ghost use Rattle.memory_layout.specs.Entries.{listOf, entryRefusal};
 ghost use Rattle.memory_contains.specs.Answers.{contained};
 ghost use Rattle.split_bounds.specs.Answers.{boundsNumber};
@@ -37,6 +39,20 @@ pub fn precision(room: &[usize; 10], words: &[u32], reals: &[f64], value: &mut [
             0
         }
         PrecisionFound::Refused(n) => n,
+    }
+}
+
+// The version.
+pub fn version(room: &[usize; 10], words: &[u32], reals: &[f64], value: &mut [u32; 1]) -> u32
+    ensures answer { λ r. ⌜ r ≡ 9 unless lent readable room words reals ⌝ }
+    ensures slots { λ r. ⌜ now (value .exit) ≡ unlessRefused r (versionTag (held room words reals .version) ∷ []) (was value) ⌝ }
+{
+    match memory_contains::version(room, words, reals) {
+        VersionFound::Is(v) => {
+            *value = [v];
+            0
+        }
+        VersionFound::Refused(n) => n,
     }
 }
 

@@ -23,7 +23,7 @@ endAt curve surface p own tolerance e v = curveFindings curve p own tolerance e 
 -- `endTests`
 unfoldable pub endFindings : Model → Found → Found → Float → ℕ → ℕ → List Finding
 endFindings m curve surface tolerance e v =
-    cond (has (m .vertices) v) (endAt curve surface (pointOf m v) (effective (vertex m v .tolerance) (m .precision)) tolerance e v) []
+    cond (has (m .vertices) v) (endAt curve surface (pointOf m v) (effective (m .version) (vertex m v .tolerance) (m .precision)) tolerance e v) []
 
 unfoldable pub endsFindings : Model → Found → Found → Float → ℕ → Option ℕ → Option ℕ → List Finding
 endsFindings m curve surface tolerance e start end =

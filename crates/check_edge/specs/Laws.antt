@@ -26,7 +26,7 @@ module _ (m : Model) (curve surface : Found) (tolerance : Float) (e v : ℕ) whe
   unfolding endFindings
   end-missing h = rw h
 
-  pub end-there : (x : Vertex) (own : Float) → has (m .vertices) v ≡ true → x ≡ seenVertex (vertex m v) → own ≡ effective (x .tolerance) (m .precision)
+  pub end-there : (x : Vertex) (own : Float) → has (m .vertices) v ≡ true → x ≡ seenVertex (vertex m v) → own ≡ effective (m .version) (x .tolerance) (m .precision)
       → endFindings m curve surface tolerance e v ≡ endAt curve surface (x .point) own tolerance e v
   unfolding endFindings seenVertex
   end-there x own h p q = rw (h, q, p)
@@ -55,7 +55,7 @@ samples-told m curve surface tolerance n e a b p q h g = rw (h, g)
 
 module _ (m : Model) (n e c s : ℕ) where
   abbrev tolerance : Float
-  tolerance = effective (edge m e .tolerance) (m .precision)
+  tolerance = effective (m .version) (edge m e .tolerance) (m .precision)
 
   choose : (p q : Bool) (t0 t1 : Float)
       → cond (p && q) (joined (λ k. sampleTest m e c s (sampleAt t0 t1 n k)) (run 1 n)) []

@@ -9,12 +9,11 @@ use check_reasons::Tally;
 use check_reasons::VERTEX;
 use float_vectors::vector::Point3;
 use geom_carriers::Found;
-use geom_lines_planes::tolerance::effective_tolerance;
-use memory_layout::names::PRECISION;
 use memory_layout::names::VERTICES;
 use memory_reads::vertex_at;
 use memory_records::records::Edge;
 use memory_records::records::Ref;
+use memory_records::records::in_effect;
 ghost use mathlib.Core.Path.{_≡_};
 ghost use Prim.Native.Nat.{_≤_};
 ghost use Rattle.meaning.specs.Lists.{listed, joined};
@@ -65,7 +64,7 @@ fn end_test(
     }
     let vertex = vertex_at(room, words, reals, v as usize);
     let local = vertex.tolerance;
-    let own = effective_tolerance(local, reals[PRECISION]);
+    let own = in_effect(words, reals, local);
     end_at(nums, t, curve, surface, vertex.point, own, tol, e, v)
 }
 

@@ -59,13 +59,13 @@ module _ (m : Model) (l i : ℕ) where
 
 module _ (m : Model) (n e : ℕ) where
   -- an edge on a curve and a surface
-  pub carried-told : (c s : ℕ) (x : Edge) (f g : Found) (tolerance : Float) → x ≡ seenEdge (edge m e) → f ≡ curve m c → g ≡ surface m s → tolerance ≡ effective (x .tolerance) (m .precision)
+  pub carried-told : (c s : ℕ) (x : Edge) (f g : Found) (tolerance : Float) → x ≡ seenEdge (edge m e) → f ≡ curve m c → g ≡ surface m s → tolerance ≡ effective (m .version) (x .tolerance) (m .precision)
       → carried m n e (some c) (some s) ≡ rimFindings m f g tolerance n e (refOf (x .start)) (refOf (x .end))
   unfolding seenEdge
   carried-told c s x f g tolerance h i j k =
       carried-on m n e c s
-      ∙ ap (λ (o : Option ℕ). rimFindings m (curve m c) (surface m s) (effective (edge m e .tolerance) (m .precision)) n e o (edge m e .end)) (sym (ref-back (edge m e .start)))
-      ∙ ap (λ (o : Option ℕ). rimFindings m (curve m c) (surface m s) (effective (edge m e .tolerance) (m .precision)) n e (refOf (seenRef (edge m e .start))) o) (sym (ref-back (edge m e .end)))
+      ∙ ap (λ (o : Option ℕ). rimFindings m (curve m c) (surface m s) (effective (m .version) (edge m e .tolerance) (m .precision)) n e o (edge m e .end)) (sym (ref-back (edge m e .start)))
+      ∙ ap (λ (o : Option ℕ). rimFindings m (curve m c) (surface m s) (effective (m .version) (edge m e .tolerance) (m .precision)) n e (refOf (seenRef (edge m e .start))) o) (sym (ref-back (edge m e .end)))
       ∙ rw (k, h, i, j)
 
   module _ (x : Edge) (h : x ≡ seenEdge (edge m e)) (r : Ref) where

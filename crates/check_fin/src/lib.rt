@@ -6,11 +6,9 @@ use check_reasons::LOOP;
 use check_reasons::Tally;
 use check_reasons::note;
 use check_reasons::note_if;
-use geom_lines_planes::tolerance::effective_tolerance;
 use memory_layout::names::EDGE_FINS;
 use memory_layout::names::EDGES;
 use memory_layout::names::FINS;
-use memory_layout::names::PRECISION;
 use memory_layout::names::VERTICES;
 use memory_lists::list;
 use memory_reads::carriers::curve_found;
@@ -18,6 +16,7 @@ use memory_reads::carriers::surface_found;
 use memory_reads::edge_at;
 use memory_reads::fin_at;
 use memory_records::records::Ref;
+use memory_records::records::in_effect;
 use walk_marks::has;
 ghost use mathlib.Core.Option.{some};
 ghost use Prim.Native.Nat.{_≤_, _<_};
@@ -127,7 +126,7 @@ fn carried_on(
 {
     let edge = edge_at(room, words, reals, e as usize);
     let local = edge.tolerance;
-    let tol = effective_tolerance(local, reals[PRECISION]);
+    let tol = in_effect(words, reals, local);
     let curve = curve_found(room, words, reals, c as usize);
     let surface = surface_found(room, words, reals, s as usize);
     rim(room, words, reals, nums, t, curve, surface, tol, n, e, edge)

@@ -84,7 +84,7 @@ module _ (m : Model) where
   curve-le e c v =
       let p : Point3 = pointOf m v in
       let line : Line = theLine (curve m c) in
-      error-le _ _ _ (off-le (offCurveS p (linePoint line (nearest line p)) (effective (vertex m v .tolerance) (m .precision)) (effective (edge m e .tolerance) (m .precision))) v)
+      error-le _ _ _ (off-le (offCurveS p (linePoint line (nearest line p)) (effective (m .version) (vertex m v .tolerance) (m .precision)) (effective (m .version) (edge m e .tolerance) (m .precision))) v)
 
   surface-le : (s : ℕ) (p : Point3) (t : Float) (n : ℕ) (a : Asked) → length (pointOnSurface m s p t n a) ≤ 1
   unfolding pointOnSurface
@@ -92,7 +92,7 @@ module _ (m : Model) where
 
   end-le : (e c s v : ℕ) → length (endTests m e c s v) ≤ 2
   unfolding endTests
-  end-le e c s v = cond-le (has (m .vertices) v) _ _ 2 (both-le (curveTest m e c v) (pointOnSurface m s (pointOf m v) (effective (vertex m v .tolerance) (m .precision)) 23 (about ofVertex v)) 1 1 (curve-le e c v) (surface-le s (pointOf m v) (effective (vertex m v .tolerance) (m .precision)) 23 (about ofVertex v))) (omega arith)
+  end-le e c s v = cond-le (has (m .vertices) v) _ _ 2 (both-le (curveTest m e c v) (pointOnSurface m s (pointOf m v) (effective (m .version) (vertex m v .tolerance) (m .precision)) 23 (about ofVertex v)) 1 1 (curve-le e c v) (surface-le s (pointOf m v) (effective (m .version) (vertex m v .tolerance) (m .precision)) 23 (about ofVertex v))) (omega arith)
 
   ends-two : (e : ℕ) → length (edgeVertices (edge m e)) ≤ 2
   ends-two e = by (edge m e .start) (edge m e .end)

@@ -132,7 +132,7 @@ sample-entry f s tolerance e t0 t1 n k at h q =
 -- ---- what `meaning` says
 
 pub curve-test : (m : Model) (e c v : ℕ)
-    → curveTest m e c v ≡ curveFindings (curve m c) (pointOf m v) (effective (vertex m v .tolerance) (m .precision)) (effective (edge m e .tolerance) (m .precision)) e v
+    → curveTest m e c v ≡ curveFindings (curve m c) (pointOf m v) (effective (m .version) (vertex m v .tolerance) (m .precision)) (effective (m .version) (edge m e .tolerance) (m .precision)) e v
 unfolding curveTest curveFindings
 curve-test m e c v = refl
 
@@ -141,6 +141,6 @@ pub point-on-surface : (m : Model) (s : ℕ) (p : Point3) (tolerance : Float) (n
 unfolding pointOnSurface surfaceFindings
 point-on-surface m s p tolerance n a = refl
 
-pub sample-test : (m : Model) (e c s : ℕ) (t : Float) → sampleTest m e c s t ≡ sampleFindings (curve m c) (surface m s) (effective (edge m e .tolerance) (m .precision)) e t
+pub sample-test : (m : Model) (e c s : ℕ) (t : Float) → sampleTest m e c s t ≡ sampleFindings (curve m c) (surface m s) (effective (m .version) (edge m e .tolerance) (m .precision)) e t
 unfolding sampleTest sampleFindings pointOnSurface surfaceFindings
 sample-test m e c s t = refl

@@ -34,6 +34,7 @@ module _ (m : Model.Model) where
       → Model.Table Model.Fin → Model.Table Model.Edge → Model.Table Model.Vertex → Model.Table Carrier → Model.Table Carrier → Model.Model
   tables b r s f l n e v c u =
       record {
+        version = m .version;
         precision = m .precision;
         bodies = b;
         regions = r;

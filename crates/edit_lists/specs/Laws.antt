@@ -34,7 +34,7 @@ module _ (room w : List ℕ) (j i : ℕ) (f : Lists room w) (list-there : j < 8)
   inside : wordAt room k i + word wordStrides k ≤ length w
   inside =
       let a = list-inside room w j i f list-there there in
-      let b = record-inside 10 wordStrides room k i (a .table) (a .slot) in
+      let b = record-inside 11 wordStrides room k i (a .table) (a .slot) in
       omega (arith, a .enough)
 
   in-record : Held (wordsOf room w k i) p

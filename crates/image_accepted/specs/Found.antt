@@ -1,4 +1,4 @@
--- The image that is written for the model in the bytes b is b just where each record is the one that is written for it, and nothing is left. Assumes nothing.
+-- What is written for the model in the bytes b, behind the version, is b just where each record is the one that is written for it, and nothing is left. Assumes nothing.
 use Prim.Native.Nat.{ℕ, zero, suc, _+_, _*_, _≤_, _<_}
 use native.Mathlib.Nat.{zero-add}
 use native.Mathlib.Omega.{arith}
@@ -8,12 +8,13 @@ use mathlib.Core.List.{List, [], _++_, append-nil}
 use lib.Dec.{eqb}
 use lib.ListN.{length, drop, length-append}
 use lib.Seq.{drop-drop}
+use Rattle.geom_lines_planes.specs.declared.tolerance.Version.the-variants.{First}
 use Rattle.meaning.specs.Lists.{run, joined, allBelow}
 use Rattle.meaning_list_laws.specs.Lists.{joined-snoc}
 use Rattle.meaning_list_laws.specs.Tests.{and-assoc, and-true, allBelow-none, allBelow-suc}
 use Rattle.image_format.specs.Bytes.{lists, wordsIn, floatsIn, listsIn, sameBytes}
 use Rattle.image_format.specs.Fields.{PRECISION-RECORD, recordImage, fieldsIn, behind}
-use Rattle.image_format.specs.Image.{precisionFields, tableImage, imageOf, countIn, behindRecords, tableBytes, fieldsAt, modelIn}
+use Rattle.image_format.specs.Image.{precisionFields, tableImage, recordsImage, countIn, behindRecords, tableBytes, fieldsAt, modelOf}
 use Rattle.image_laws.specs.Numbers.{Bytes}
 use Rattle.image_laws.specs.Machines.{behind-bytes, table-bytes}
 use Rattle.image_laws.specs.Records.{length-image}
@@ -61,18 +62,18 @@ module _ (k : ℕ) (h : k < 10) (s : List ℕ) (b : Bytes s) where
 
 -- the precision's record, and the first k tables
 unfoldable pub upTo : List ℕ → ℕ → List ℕ
-upTo b zero = recordImage PRECISION-RECORD (precisionFields (modelIn b))
+upTo b zero = recordImage PRECISION-RECORD (precisionFields (modelOf b First))
 upTo b (suc k) = upTo b k ++ recordsWritten k (tableBytes b k) (countIn b k)
 
-image-parts : (b : List ℕ) → imageOf (modelIn b) ≡ upTo b 10
-unfolding imageOf tableImage modelIn upTo recordsWritten fieldsAt spelled
+image-parts : (b : List ℕ) → recordsImage (modelOf b First) ≡ upTo b 10
+unfolding recordsImage tableImage modelOf upTo recordsWritten fieldsAt spelled
 image-parts b = refl
 
 module _ (b : List ℕ) (bytes : Bytes b) where
   -- the precision's record takes 50 bytes, read or written
   pub head-long : (length (recordImage PRECISION-RECORD (fieldsIn PRECISION-RECORD b)) ≡ 50) × (length (upTo b 0) ≡ 50)
   unfolding upTo
-  head-long = (length-image PRECISION-RECORD (fieldsIn PRECISION-RECORD b) ∙ sizes, length-image PRECISION-RECORD (precisionFields (modelIn b)) ∙ none)
+  head-long = (length-image PRECISION-RECORD (fieldsIn PRECISION-RECORD b) ∙ sizes, length-image PRECISION-RECORD (precisionFields (modelOf b First)) ∙ none)
     where
       none : 2 + 4 * 10 + 8 * 1 + length (lists []) ≡ 50
       none = unfold lists in refl
@@ -101,7 +102,7 @@ module _ (b : List ℕ) (bytes : Bytes b) where
       ∙ and-assoc (starts (upTo b 0) b) (allBelow (λ j. recordsSame j (tableBytes b j) (countIn b j)) k) (recordsSame k (tableBytes b k) (countIn b k))
       ∙ ap (λ (t : Bool). starts (upTo b 0) b && t) (sym (allBelow-suc (λ j. recordsSame j (tableBytes b j) (countIn b j)) k))
 
-  pub same-image : sameBytes (imageOf (modelIn b)) b
+  pub same-image : sameBytes (recordsImage (modelOf b First)) b
       ≡ ((starts (upTo b 0) b && allBelow (λ k. recordsSame k (tableBytes b k) (countIn b k)) 10) && eqb (length (tableBytes b 10)) 0)
   same-image =
       ap (λ (l : List ℕ). sameBytes l b) (image-parts b ∙ sym (append-nil (upTo b 10)))

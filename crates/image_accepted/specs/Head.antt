@@ -11,12 +11,13 @@ use lib.Ieee.Bits.{ofBits-fits}
 use lib.Ieee.Scale.{finite}
 use borrow.Author.Tests.{leb-true, le-leb}
 use Rattle.interval_arithmetic.specs.Ops.{zeroF}
+use Rattle.geom_lines_planes.specs.declared.tolerance.Version.the-variants.{First}
 use Rattle.meaning.specs.Edits.{precisionOk}
 use Rattle.meaning_list_laws.specs.Tests.{and-both, and-true, both-ways}
 use Rattle.memory_layout.specs.Layout.{word}
 use Rattle.image_format.specs.Bytes.{words, floats, lists, number, wordsIn, floatsIn, listsIn, sameBytes}
 use Rattle.image_format.specs.Fields.{PRECISION-RECORD, marks, recordImage, fieldsIn}
-use Rattle.image_format.specs.Image.{precisionFields, countIn, modelIn}
+use Rattle.image_format.specs.Image.{precisionFields, countIn, modelOf}
 use Rattle.image_laws.specs.Numbers.{Bytes, below-drop, number-below, numbersIn}
 use Rattle.image_laws.specs.Starts.{starts, starts-little, starts-floats}
 use Rattle.image_record_test.specs.Parts.{bitsGood}
@@ -31,12 +32,12 @@ precisionIn b = ofBits binary64 (number 8 (drop 42 b))
 unfoldable pub headGood : List ℕ → Bool
 headGood b = leb 50 (length b) && eqb (number 2 b) (word marks PRECISION-RECORD) && precisionOk (precisionIn b)
 
-pub precision-read : (b : List ℕ) → modelIn b .precision ≡ precisionIn b
-unfolding modelIn fieldsIn floatsIn
+pub precision-read : (b : List ℕ) → modelOf b First .precision ≡ precisionIn b
+unfolding modelOf fieldsIn floatsIn
 precision-read b = refl
 
-fields-again : (b : List ℕ) → precisionFields (modelIn b) ≡ fieldsIn PRECISION-RECORD b
-unfolding modelIn countIn fieldsIn wordsIn floatsIn listsIn
+fields-again : (b : List ℕ) → precisionFields (modelOf b First) ≡ fieldsIn PRECISION-RECORD b
+unfolding modelOf countIn fieldsIn wordsIn floatsIn listsIn
 fields-again b = refl
 
 module _ (b : List ℕ) (bytes : Bytes b) where
@@ -61,7 +62,7 @@ module _ (b : List ℕ) (bytes : Bytes b) where
       no-lists : starts (lists (fieldsIn PRECISION-RECORD b .lists)) (drop 50 b) ≡ true
       no-lists = unfold fieldsIn listsIn lists starts in refl
 
-  pub head-is : (precisionOk (modelIn b .precision) && starts (upTo b 0) b) ≡ headGood b
+  pub head-is : (precisionOk (modelOf b First .precision) && starts (upTo b 0) b) ≡ headGood b
   unfolding headGood
   head-is =
       rw (precision-read b, starts-head)

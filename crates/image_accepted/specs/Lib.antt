@@ -3,3 +3,4 @@ pub mod Found
 pub mod Head
 pub mod Whole
 pub mod Turns
+pub mod Version

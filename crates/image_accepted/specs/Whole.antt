@@ -1,4 +1,4 @@
--- Bytes are an image just where the code's tests pass, and what an image says of each of its records. Assumes nothing.
+-- Bytes are the records of an image just where the code's tests pass, and what is known of each of them then. Assumes nothing.
 use Prim.Native.Nat.{ℕ, _-_, _≤_, _<_}
 use native.Mathlib.Omega.{arith}
 use mathlib.Core.Path.{_≡_, refl, sym, ap, _∙_}
@@ -7,13 +7,14 @@ use mathlib.Core.List.{List}
 use lib.Dec.{eqb, leb}
 use lib.ListN.{length, drop, length-drop}
 use borrow.Author.Tests.{eqb-true, eq-eqb, leb-true, le-leb}
+use Rattle.geom_lines_planes.specs.declared.tolerance.Version.the-variants.{First}
 use Rattle.meaning.specs.Lists.{allBelow, every}
 use Rattle.meaning.specs.Edits.{precisionOk}
 use Rattle.meaning_list_laws.specs.Tests.{and-both, and-assoc, and-true, and-false, both-ways, allBelow-at, allBelow-all}
 use Rattle.memory_layout.specs.Layout.{word, largestTables}
-use Rattle.image_format.specs.Bytes.{number}
+use Rattle.image_format.specs.Bytes.{number, sameBytes}
 use Rattle.image_format.specs.Fields.{PRECISION-RECORD, marks, behind}
-use Rattle.image_format.specs.Image.{countIn, behindRecords, tableBytes, fieldsAt, modelIn, held, accepted}
+use Rattle.image_format.specs.Image.{countIn, behindRecords, tableBytes, fieldsAt, recordsImage, modelOf, held}
 use Rattle.image_laws.specs.Numbers.{Bytes}
 use Rattle.image_laws.specs.Starts.{starts}
 use Rattle.image_record_test.specs.Good.{holds, recordGood}
@@ -25,11 +26,15 @@ use Rattle.image_accepted.specs.Head.{precisionIn, headGood, head-is}
 unfoldable pub countsGood : List ℕ → Bool
 countsGood b = allBelow (λ k. leb (countIn b k) (word largestTables k)) 10
 
+-- what `accepted` asks of the precision's record and the tables, the bytes behind the version's record
+unfoldable pub recordsAccepted : List ℕ → Bool
+recordsAccepted b = held (modelOf b First) && sameBytes (recordsImage (modelOf b First)) b
+
 -- what the code tests
 unfoldable pub imageGood : List ℕ → Bool
 imageGood b = headGood b && countsGood b && eqb (tablesEnd b 10) (length b)
 
--- what is known of an image
+-- what is known of them
 pub record Found (b : List ℕ) : Type 0 where
   pub head : 50 ≤ length b
   pub precision : precisionOk (precisionIn b) ≡ true
@@ -40,8 +45,8 @@ pub record Found (b : List ℕ) : Type 0 where
 unfoldable recordsHeld : List ℕ → ℕ → Bool
 recordsHeld b k = allBelow (λ i. holds k (fieldsAt b k i)) (countIn b k)
 
-held-is : (b : List ℕ) → held (modelIn b) ≡ (precisionOk (modelIn b .precision) && allBelow (λ k. leb (countIn b k) (word largestTables k) && recordsHeld b k) 10)
-unfolding held modelIn every allBelow recordsHeld holds
+held-is : (b : List ℕ) → held (modelOf b First) ≡ (precisionOk (modelOf b First .precision) && allBelow (λ k. leb (countIn b k) (word largestTables k) && recordsHeld b k) 10)
+unfolding held modelOf every allBelow recordsHeld holds
 held-is b = simp (and-true, and-assoc)
 
 pub head-room : (b : List ℕ) → headGood b ≡ true → 50 ≤ length b
@@ -58,9 +63,9 @@ module _ (b : List ℕ) (bytes : Bytes b) where
   sameAt k = recordsSame k (tableBytes b k) (countIn b k)
 
   -- the tests of the definition, in the order of the code
-  accepted-is : accepted b ≡ (headGood b && (allBelow heldAt 10 && allBelow sameAt 10 && eqb (length (tableBytes b 10)) 0))
-  unfolding accepted
-  accepted-is = rw (held-is b, same-image b bytes, ← head-is b bytes) (regroup (precisionOk (modelIn b .precision)) (allBelow heldAt 10) (starts (upTo b 0) b) (allBelow sameAt 10) _)
+  accepted-is : recordsAccepted b ≡ (headGood b && (allBelow heldAt 10 && allBelow sameAt 10 && eqb (length (tableBytes b 10)) 0))
+  unfolding recordsAccepted
+  accepted-is = rw (held-is b, same-image b bytes, ← head-is b bytes) (regroup (precisionOk (modelOf b First .precision)) (allBelow heldAt 10) (starts (upTo b 0) b) (allBelow sameAt 10) _)
     where
       regroup : (p h s t e : Bool) → ((p && h) && ((s && t) && e)) ≡ ((p && s) && (h && t && e))
       regroup true h true t e = sym (and-assoc h t e)
@@ -100,15 +105,15 @@ module _ (b : List ℕ) (bytes : Bytes b) where
   abbrev left : Bool
   left = eqb (length (tableBytes b 10)) 0
 
-  all-of : accepted b ≡ true → (headGood b ≡ true) × (allBelow heldAt 10 ≡ true) × (allBelow sameAt 10 ≡ true) × (left ≡ true)
+  all-of : recordsAccepted b ≡ true → (headGood b ≡ true) × (allBelow heldAt 10 ≡ true) × (allBelow sameAt 10 ≡ true) × (left ≡ true)
   all-of e =
       let p = and-both (headGood b) (allBelow heldAt 10 && allBelow sameAt 10 && left) (sym accepted-is ∙ e) in
       let q = and-both (allBelow heldAt 10 && allBelow sameAt 10) left (p .1) in
       let r = and-both (allBelow heldAt 10) (allBelow sameAt 10) (q .0) in
       (p .0, r .0, r .1, q .1)
 
-  pub image-found : accepted b ≡ true → Found b
-  image-found e = let a = all-of e in found-of (a .1) (a .0) (a .2)
+  pub records-found : recordsAccepted b ≡ true → Found b
+  records-found e = let a = all-of e in found-of (a .1) (a .0) (a .2)
 
   -- the last record ends where the bytes do
   ends-there : Found b → length (tableBytes b 10) ≡ 0 → tablesEnd b 10 ≡ length b
@@ -122,12 +127,12 @@ module _ (b : List ℕ) (bytes : Bytes b) where
   unfolding countsGood
   counts-of f = allBelow-all (λ k. leb (countIn b k) (word largestTables k)) 10 (λ k h. le-leb (countIn b k) (word largestTables k) (f .counts k h))
 
-  pub image-good : accepted b ≡ imageGood b
+  pub image-good : recordsAccepted b ≡ imageGood b
   unfolding imageGood
   image-good =
       both-ways _ _
       (λ e. let a = all-of e in
-      let f = image-found e in
+      let f = records-found e in
       rw (a .0, counts-of f) (eq-eqb (tablesEnd b 10) (length b) (ends-there f (eqb-true (length (tableBytes b 10)) 0 (a .3)))))
       (λ e. let p = and-both (headGood b && countsGood b) (eqb (tablesEnd b 10) (length b)) e in
       let q = and-both (headGood b) (countsGood b) (p .0) in

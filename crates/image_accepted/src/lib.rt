@@ -1,4 +1,8 @@
-// Inner: whether bytes are an image (W-202). `specs/Image.antt` of `image_format` says which are. Other crates call `accepted` and `count_in`.
+// Inner: whether bytes are an image (W-202, W-211). `specs/Image.antt` of `image_format` says which are. Other crates call `accepted` and `count_in`, and `version_in` and `records_in` of `version`.
+pub mod version;
+
+use crate::version::records_in;
+use crate::version::version_good;
 use image_bytes::bits_in;
 use image_bytes::float_of;
 use image_bytes::mark_in;
@@ -11,7 +15,7 @@ ghost use lib.ListN.{length};
 ghost use Rattle.image_format.specs.Image.{countIn, accepted};
 ghost use Rattle.image_accepted.specs.Ends.{recordsEnd, tablesEnd};
 ghost use Rattle.image_accepted.specs.Head.{headGood};
-ghost use Rattle.image_accepted.specs.Whole.{countsGood};
+ghost use Rattle.image_accepted.specs.Whole.{countsGood, recordsAccepted};
 
 // 01's largest tables.
 const LARGEST: [u32; 10] = [64, 128, 128, 512, 512, 4096, 2048, 2048, 2048, 512];
@@ -79,9 +83,9 @@ fn tables_end(bytes: &[u8]) -> usize
     end
 }
 
-// Are the bytes an image?
-pub fn accepted(bytes: &[u8]) -> bool
-    ensures { λ r. ⌜ r ≡ accepted (now (bytes .entry)) ⌝ }
+// Are the bytes the precision's record and the tables of an image?
+fn records_good(bytes: &[u8]) -> bool
+    ensures { λ r. ⌜ r ≡ recordsAccepted (now (bytes .entry)) ⌝ }
 {
     if !head_good(bytes) {
         return false;
@@ -90,4 +94,14 @@ pub fn accepted(bytes: &[u8]) -> bool
         return false;
     }
     tables_end(bytes) == bytes.len()
+}
+
+// Are the bytes an image?
+pub fn accepted(bytes: &[u8]) -> bool
+    ensures { λ r. ⌜ r ≡ accepted (now (bytes .entry)) ⌝ }
+{
+    if !version_good(bytes) {
+        return false;
+    }
+    records_good(records_in(bytes))
 }

@@ -1,4 +1,4 @@
--- The records of an image laid over the lent memory: each used record has the image's fields, the counts and the precision are the image's, and slots that are not used stay. Assumes nothing.
+-- The records of an image laid over the lent memory: each used record has the image's fields, the counts and the precision are the image's, and the version and slots that are not used stay. Assumes nothing.
 use Prim.Native.Nat.{ℕ, zero, suc, _+_, _≤_, _<_}
 use native.Mathlib.Nat.{zero-add, lt-of-lt-of-le}
 use native.Mathlib.Omega.{arith}
@@ -9,12 +9,12 @@ use mathlib.Core.List.{List, []}
 use lib.ListN.{length, getD, take, drop, length-drop}
 use lib.Seq.{length-take-le}
 use lib.Ieee.{Float, nan}
-use Rattle.memory_layout.specs.Names.{PRECISION}
+use Rattle.memory_layout.specs.Names.{VERSION, PRECISION}
 use Rattle.memory_layout.specs.Layout.{wordStrides, realStrides, word, real, base, recordAt, wordAt, realAt, wordsOf, realsOf}
 use Rattle.memory_layout.specs.Fit.{Inside}
 use Rattle.memory_layout.specs.Laws.{before-tables, record-inside, words-length}
 use Rattle.memory_writes.specs.Put.{over, putWords, putReals}
-use Rattle.memory_writes.specs.Over.{length-over, part-behind, entry-written}
+use Rattle.memory_writes.specs.Over.{length-over, part-behind, entry-behind, entry-written}
 use Rattle.memory_writes.specs.Frame.{length-put, put-there, put-elsewhere, put-before}
 use Rattle.image_format.specs.Fields.{listLimitsOf, PRECISION-RECORD, wordCounts, floatCounts, fieldsIn}
 use Rattle.image_format.specs.Image.{countIn, fieldsAt}
@@ -109,10 +109,11 @@ module _ {A : Type 0} (from : ℕ) (strides room : List ℕ) (g : ℕ → ℕ �
 
 -- ---- the lent memory
 
--- the words v and the floats y have the records of the image b, and else read as w and x
+-- the words v and the floats y have an image's records b, and else read as w and x
 pub record Read (room w v : List ℕ) (x y : List Float) (b : List ℕ) : Type 0 where
   pub words-long : length v ≡ length w
   pub reals-long : length y ≡ length x
+  pub version : word v VERSION ≡ word w VERSION
   pub precision : real y PRECISION ≡ real (fieldsIn PRECISION-RECORD b .floats) PRECISION
   pub counts : (k : ℕ) → k < 10 → word v k ≡ countIn b k
   pub words : (k i : ℕ) → k < 10 → i < countIn b k → Laid k (fieldsAt b k i) (wordsOf room w k i) (wordsOf room v k i)
@@ -134,16 +135,16 @@ module _ (room b : List ℕ) where
   abbrev precision : List Float
   precision = fieldsIn PRECISION-RECORD b .floats
 
-  some-words : (k n : ℕ) (l : List ℕ) → recordsLaid room b k n l ≡ some 10 wordStrides room newWords (countIn b) k n l
+  some-words : (k n : ℕ) (l : List ℕ) → recordsLaid room b k n l ≡ some 11 wordStrides room newWords (countIn b) k n l
   unfolding recordsLaid some putWords wordsOf
   some-words k zero l = refl
   some-words k (suc i) l =
       ap (λ (v : List ℕ). over (wordAt room k i) (newWords k i (take (word wordStrides k) (drop (wordAt room k i) v))) v) (some-words k i l)
 
-  all-words : (n : ℕ) (l : List ℕ) → wordsLaid room b n l ≡ first 10 wordStrides room newWords (countIn b) n (over 0 head l)
+  all-words : (n : ℕ) (l : List ℕ) → wordsLaid room b n l ≡ first 11 wordStrides room newWords (countIn b) n (over 0 head l)
   unfolding wordsLaid first
   all-words zero l = refl
-  all-words (suc k) l = some-words k (countIn b k) (wordsLaid room b k l) ∙ ap (some 10 wordStrides room newWords (countIn b) k (countIn b k)) (all-words k l)
+  all-words (suc k) l = some-words k (countIn b k) (wordsLaid room b k l) ∙ ap (some 11 wordStrides room newWords (countIn b) k (countIn b k)) (all-words k l)
 
   some-reals : (k n : ℕ) (l : List Float) → floatsLaid room b k n l ≡ some 1 realStrides room newReals (countIn b) k n l
   unfolding floatsLaid some putReals
@@ -184,7 +185,7 @@ module _ (room w : List ℕ) (x : List Float) (b : List ℕ) (load : Loadable ro
 
   -- the front of the words and of the floats, in front of the tables
   head-fits : 0 + length (head room b) ≤ length w
-  head-fits = let n = head-many room b in let t = before-tables 10 wordStrides room 10 in omega (arith, load .lent .words)
+  head-fits = let n = head-many room b in let t = before-tables 11 wordStrides room 10 in omega (arith, load .lent .words)
 
   precision-fits : 0 + length (precision room b) ≤ length x
   precision-fits = let n = precision-one room b in let t = before-tables 1 realStrides room 10 in omega (arith, load .lent .reals)
@@ -199,7 +200,7 @@ module _ (room w : List ℕ) (x : List Float) (b : List ℕ) (load : Loadable ro
   unfolding wordsOf
   head-apart k i =
       let n = head-many room b in
-      let t = before-tables 10 wordStrides room k in
+      let t = before-tables 11 wordStrides room k in
       part-behind 0 (wordAt room k i) (word wordStrides k) (head room b) w (omega arith) head-fits
 
   precision-apart : (k i : ℕ) → realsOf room (over 0 (precision room b) x) k i ≡ realsOf room x k i
@@ -221,17 +222,19 @@ module _ (room w : List ℕ) (x : List Float) (b : List ℕ) (load : Loadable ro
   pub read : Read room w (wordsLaid room b 10 w) x (realsLaid room b 10 x) b
   unfolding wordsOf realsOf
   read =
-      let f = first-laid 10 wordStrides room (newWords room b) (countIn b) (load .counts) (λ k i r h g e. laid-whole k i r h g e .long) 10 (over 0 (head room b) w)
+      let f = first-laid 11 wordStrides room (newWords room b) (countIn b) (load .counts) (λ k i r h g e. laid-whole k i r h g e .long) 10 (over 0 (head room b) w)
       (omega arith) (let l = head-long in omega (arith, load .lent .words)) in
       let g = first-laid 1 realStrides room (newReals room b) (countIn b) (load .counts) reals-whole 10 (over 0 (precision room b) x)
       (omega arith) (let l = precision-long in omega (arith, load .lent .reals)) in
       let n = precision-one room b in
+      let m = head-many room b in
       rw (all-words room b 10 w, all-reals room b 10 x)
       (record {
         words-long = f .long ∙ head-long;
         reals-long = g .long ∙ precision-long;
+        version = f .before 10 0 (omega arith) ∙ entry-behind 0 10 (head room b) w 0 (omega arith) head-fits;
         precision = g .before 0 nan (omega arith) ∙ entry-written 0 0 (precision room b) x nan (omega arith) (omega arith);
-        counts = λ k h. f .before k 0 h ∙ count-there k h;
+        counts = λ k h. f .before k 0 (omega arith) ∙ count-there k h;
         words = λ k i h u.
             subst (λ (r : List ℕ). Laid k (fieldsAt b k i) (wordsOf room w k i) r) (sym (f .there k i h u ∙ ap (newWords room b k i) (head-apart k i)))
             (laid-whole k i (wordsOf room w k i) h u (slot-long k i h u));

@@ -19,23 +19,26 @@ pub record Fields : Type 0 where
   pub floats : List Float
   pub lists : List (List ℕ)
 
--- ---- by table, and last the precision's record: two letters, the first in the lower byte; how many numbers, floats and lists
+-- ---- by table, and last the precision's record and the version's: two letters, the first in the lower byte; how many numbers, floats and lists
 
 abbrev pub PRECISION-RECORD : ℕ
 PRECISION-RECORD = 10
 
--- BO, RE, SH, FA, LO, FI, ED, VE, CU, SU; PR
+abbrev pub VERSION-RECORD : ℕ
+VERSION-RECORD = 11
+
+-- BO, RE, SH, FA, LO, FI, ED, VE, CU, SU; PR, VN
 abbrev pub marks : List ℕ
-marks = 0x4f42 ∷ 0x4552 ∷ 0x4853 ∷ 0x4146 ∷ 0x4f4c ∷ 0x4946 ∷ 0x4445 ∷ 0x4556 ∷ 0x5543 ∷ 0x5553 ∷ 0x5250 ∷ []
+marks = 0x4f42 ∷ 0x4552 ∷ 0x4853 ∷ 0x4146 ∷ 0x4f4c ∷ 0x4946 ∷ 0x4445 ∷ 0x4556 ∷ 0x5543 ∷ 0x5553 ∷ 0x5250 ∷ 0x4e56 ∷ []
 
 abbrev pub wordCounts : List ℕ
-wordCounts = 1 ∷ 2 ∷ 1 ∷ 7 ∷ 1 ∷ 4 ∷ 7 ∷ 1 ∷ 1 ∷ 1 ∷ 10 ∷ []
+wordCounts = 1 ∷ 2 ∷ 1 ∷ 7 ∷ 1 ∷ 4 ∷ 7 ∷ 1 ∷ 1 ∷ 1 ∷ 10 ∷ 1 ∷ []
 
 abbrev pub floatCounts : List ℕ
-floatCounts = 0 ∷ 0 ∷ 0 ∷ 0 ∷ 0 ∷ 0 ∷ 1 ∷ 4 ∷ 6 ∷ 6 ∷ 1 ∷ []
+floatCounts = 0 ∷ 0 ∷ 0 ∷ 0 ∷ 0 ∷ 0 ∷ 1 ∷ 4 ∷ 6 ∷ 6 ∷ 1 ∷ 0 ∷ []
 
 abbrev pub listCounts : List ℕ
-listCounts = 1 ∷ 1 ∷ 3 ∷ 1 ∷ 1 ∷ 0 ∷ 1 ∷ 0 ∷ 0 ∷ 0 ∷ 0 ∷ []
+listCounts = 1 ∷ 1 ∷ 3 ∷ 1 ∷ 1 ∷ 0 ∷ 1 ∷ 0 ∷ 0 ∷ 0 ∷ 0 ∷ 0 ∷ []
 
 -- and the places of those lists among the words of a record of the lent memory; the numbers stand at its front
 abbrev pub listPlacesOf : List (List ℕ)

@@ -1,19 +1,21 @@
--- The image of a model, and the model in an image (W-202). Definitions only.
+-- The image of a model, and the model in an image (W-202, W-211). Definitions only.
 -- "The precision's record comes first, then the tables in one fixed order, records in id order." The precision's record has the ten used counts too, so that an image that was cut off between two
--- records is a short one.
+-- records is a short one. "A version 2 model's image begins with one more record, with a mark of its own and the version."
 use Prim.Native.Nat.{ℕ, zero, suc}
-use mathlib.Core.Bool.{Bool, true, _&&_}
+use mathlib.Core.Bool.{Bool, true, cond, _&&_}
 use mathlib.Core.List.{List, [], _∷_, _++_}
-use lib.Dec.{leb}
-use lib.ListN.{length}
+use lib.Dec.{eqb, leb}
+use lib.ListN.{length, drop}
+use Rattle.geom_lines_planes.specs.declared.tolerance.Version.{Version}
+use Rattle.geom_lines_planes.specs.declared.tolerance.Version.the-variants.{First, Second}
 use Rattle.meaning.specs.Lists.{run, joined, allBelow, every}
 use Rattle.meaning.specs.Model.{Model, Table, largest, Body, Region, Shell, Face, Loop, Edge, Vertex}
 use Rattle.meaning.specs.Edits.{toleranceOk, precisionOk}
 use Rattle.memory_layout.specs.Names.{BODIES, REGIONS, SHELLS, FACES, LOOPS, FINS, EDGES, VERTICES, CURVES, SURFACES, PRECISION}
 use Rattle.memory_layout.specs.Layout.{word, real}
-use Rattle.memory_layout.specs.Laid.{rooms}
-use Rattle.image_format.specs.Bytes.{sameBytes}
-use Rattle.image_format.specs.Fields.{Fields, PRECISION-RECORD, recordImage, fieldsIn, behind, bodyFields, regionFields, shellFields, faceFields, loopFields, finFields, edgeFields, vertexFields, carrierFields, bodyIn, regionIn, shellIn, faceIn, loopIn, finIn, edgeIn, vertexIn, carrierIn}
+use Rattle.memory_layout.specs.Laid.{rooms, versionTag}
+use Rattle.image_format.specs.Bytes.{number, sameBytes}
+use Rattle.image_format.specs.Fields.{Fields, PRECISION-RECORD, VERSION-RECORD, marks, recordImage, fieldsIn, behind, bodyFields, regionFields, shellFields, faceFields, loopFields, finFields, edgeFields, vertexFields, carrierFields, bodyIn, regionIn, shellIn, faceIn, loopIn, finIn, edgeIn, vertexIn, carrierIn}
 
 -- ---- written
 
@@ -24,8 +26,9 @@ precisionFields m = record { words = rooms m; floats = m .precision ∷ []; list
 unfoldable pub tableImage : {A : Type 0} → ℕ → (A → Fields) → Table A → List ℕ
 tableImage k fields t = joined (λ i. recordImage k (fields (t .slot i))) (run 0 (t .used))
 
-unfoldable pub imageOf : Model → List ℕ
-imageOf m =
+-- the precision's record, then the tables
+unfoldable pub recordsImage : Model → List ℕ
+recordsImage m =
     recordImage PRECISION-RECORD (precisionFields m)
     ++ tableImage BODIES bodyFields (m .bodies)
     ++ tableImage REGIONS regionFields (m .regions)
@@ -38,7 +41,15 @@ imageOf m =
     ++ tableImage CURVES carrierFields (m .curves)
     ++ tableImage SURFACES carrierFields (m .surfaces)
 
--- ---- read, whatever the bytes b are
+-- "with a mark of its own and the version": "A version 1 model is written as before", with no such record
+unfoldable pub versionImage : Version → List ℕ
+versionImage First = []
+versionImage Second = recordImage VERSION-RECORD (record { words = versionTag Second ∷ []; floats = []; lists = [] })
+
+unfoldable pub imageOf : Model → List ℕ
+imageOf m = versionImage (m .version) ++ recordsImage m
+
+-- ---- the precision's record and the tables read, whatever the bytes b are
 
 -- how many records of table k the precision's record names
 unfoldable pub countIn : List ℕ → ℕ → ℕ
@@ -62,9 +73,10 @@ module _ (b : List ℕ) where
   abbrev pub tableIn : {A : Type 0} → ℕ → (Fields → A) → Table A
   tableIn k of = record { used = countIn b k; slot = λ i. of (fieldsAt b k i) }
 
-  unfoldable pub modelIn : Model
-  modelIn =
+  unfoldable pub modelOf : Version → Model
+  modelOf v =
       record {
+        version = v;
         precision = real (fieldsIn PRECISION-RECORD b .floats) PRECISION;
         bodies = tableIn BODIES bodyIn;
         regions = tableIn REGIONS regionIn;
@@ -77,6 +89,19 @@ module _ (b : List ℕ) where
         curves = tableIn CURVES carrierIn;
         surfaces = tableIn SURFACES carrierIn;
       }
+
+-- ---- an image read, whatever the bytes b are
+
+-- version 2 where they begin with the mark of its record; "old images are read as version 1"
+unfoldable pub versionIn : List ℕ → Version
+versionIn b = cond (eqb (number 2 b) (word marks VERSION-RECORD)) Second First
+
+-- the bytes behind that record, all of them where there is none
+unfoldable pub recordsIn : List ℕ → List ℕ
+recordsIn b = drop (length (versionImage (versionIn b))) b
+
+unfoldable pub modelIn : List ℕ → Model
+modelIn b = modelOf (recordsIn b) (versionIn b)
 
 -- ---- accepted
 
@@ -124,6 +149,7 @@ held m =
     ∷ []
     )
 
--- "an image that the reader accepts is the one the writer makes": a short image, a wrong mark, an unknown tag, another spelling of what a model does not say, and bytes left over make another one
+-- "an image that the reader accepts is the one the writer makes": a short image, a wrong mark, an unknown tag, another spelling of what a model does not say, a version
+-- record that "names anything but 2", and bytes left over make another one
 unfoldable pub accepted : List ℕ → Bool
 accepted b = held (modelIn b) && sameBytes (imageOf (modelIn b)) b

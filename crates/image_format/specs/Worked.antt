@@ -4,21 +4,24 @@ use mathlib.Core.Path.{_≡_, refl}
 use mathlib.Core.Bool.{true, false}
 use mathlib.Core.List.{List, [], _∷_, _++_, map}
 use mathlib.Core.Option.{none, some}
-use lib.ListN.{length, take, set, replicate}
+use lib.ListN.{length, take, drop, set, replicate}
 use lib.Ieee.{Float, nan, binary64, ofBits}
 use Rattle.interval_arithmetic.specs.Ops.{zeroF}
 use Rattle.geom_lines_planes.specs.declared.tolerance.Tolerance.the-variants.{Own, Session}
+use Rattle.geom_lines_planes.specs.declared.tolerance.Version.{Version}
+use Rattle.geom_lines_planes.specs.declared.tolerance.Version.the-variants.{First, Second}
 use Rattle.geom_carriers.specs.declared.Carrier.the-variants as Carriers
 use Rattle.meaning.specs.Model.{Model, Table, solid, negative, body, region, shell, face, loop, fin, edge, vertex}
 use Rattle.meaning.specs.Computing.{computing}
 use Rattle.memory_layout.specs.Names.{EDGES}
 use Rattle.image_format.specs.Bytes.{little, floats, lists, number, wordsIn, floatsIn, listsIn, sameBytes}
 use Rattle.image_format.specs.Fields.{recordImage, fieldsIn, behind, edgeFields}
-use Rattle.image_format.specs.Image.{tableImage, imageOf, countIn, behindRecords, tableBytes, fieldsAt, modelIn, held, accepted}
+use Rattle.image_format.specs.Image.{tableImage, recordsImage, versionImage, imageOf, countIn, behindRecords, tableBytes, fieldsAt, modelOf, versionIn, recordsIn, modelIn, held, accepted}
 
 -- for evaluation: opens every definition of this crate and what they are made of
 unfoldable pub bytes : ℕ
-unfolding computing little floats lists number wordsIn floatsIn listsIn sameBytes recordImage fieldsIn behind tableImage imageOf countIn behindRecords tableBytes fieldsAt modelIn held accepted
+unfolding computing little floats lists number wordsIn floatsIn listsIn sameBytes recordImage fieldsIn behind tableImage recordsImage versionImage imageOf countIn behindRecords tableBytes fieldsAt modelOf versionIn recordsIn modelIn
+    held accepted
 bytes = 0
 
 abbrev half : Float
@@ -45,6 +48,7 @@ one r = record { used = 1; slot = λ _. r }
 abbrev small : Model
 small =
     record {
+      version = First;
       precision = half;
       bodies = one (record { kind = solid; regions = 7 ∷ [] });
       regions = one (record { body = 1; solid = true; shells = [] });
@@ -68,6 +72,7 @@ small-accepted = refl
 
 -- "Reading what was written gives the same model"
 pub record Back (m n : Model) : Type 0 where
+  pub version : m .version ≡ n .version
   pub precision : m .precision ≡ n .precision
   pub body : body m 0 ≡ body n 0
   pub region : region m 0 ≡ region n 0
@@ -84,6 +89,7 @@ small-back : Back (modelIn (imageOf small)) small
 unfolding bytes
 small-back =
     record {
+      version = refl;
       precision = refl;
       body = refl;
       region = refl;
@@ -131,9 +137,10 @@ unfolding bytes
 wrong-refused = refl
 
 -- as many regions as a body may list, and one more
-abbrev listing : ℕ → Model
-listing n =
+abbrev listing : Version → ℕ → Model
+listing v n =
     record {
+      version = v;
       precision = half;
       bodies = one (record { kind = solid; regions = replicate n 0 });
       regions = record { used = 0; slot = small .regions .slot };
@@ -147,6 +154,52 @@ listing n =
       surfaces = record { used = 0; slot = small .surfaces .slot };
     }
 
-sixteen-accepted : map (λ n. accepted (imageOf (listing n))) (16 ∷ 17 ∷ []) ≡ true ∷ false ∷ []
+sixteen-accepted : map (λ n. accepted (imageOf (listing First n))) (16 ∷ 17 ∷ []) ≡ true ∷ false ∷ []
 unfolding bytes
 sixteen-accepted = refl
+
+-- ---- version 2 (W-211)
+
+abbrev old : List ℕ
+old = imageOf (listing First 1)
+
+abbrev second : List ℕ
+second = imageOf (listing Second 1)
+
+-- VN and 2, then all "as before"
+second-begins : second ≡ (0x56 ∷ 0x4e ∷ 2 ∷ 0 ∷ 0 ∷ 0 ∷ []) ++ old
+unfolding bytes
+second-begins = refl
+
+both-accepted : map accepted (old ∷ second ∷ []) ≡ true ∷ true ∷ []
+unfolding bytes
+both-accepted = refl
+
+-- "so old images are read as version 1"
+both-read : map (λ b. modelIn b .version) (old ∷ second ∷ []) ≡ First ∷ Second ∷ []
+unfolding bytes
+both-read = refl
+
+second-body : body (modelIn second) 0 ≡ body (listing Second 1) 0
+unfolding bytes
+second-body = refl
+
+-- a version record that names 0, 1, 3, or 2 and more in its highest byte; cut within it, and behind it; that record twice; behind the precision's record; another mark
+abbrev misnamed : List (List ℕ)
+misnamed =
+    set second 2 0
+    ∷ set second 2 1
+    ∷ set second 2 3
+    ∷ set second 5 1
+    ∷ take 1 second
+    ∷ take 2 second
+    ∷ take 5 second
+    ∷ take 6 second
+    ∷ (take 6 second ++ second)
+    ∷ (take 50 old ++ take 6 second ++ drop 50 old)
+    ∷ set second 1 0x4f
+    ∷ []
+
+misnamed-refused : map accepted misnamed ≡ replicate 11 false
+unfolding bytes
+misnamed-refused = refl

@@ -12,6 +12,8 @@ use lib.Ieee.{Float, binary64, fits}
 use lib.Ieee.Bits.{ofBits-fits}
 use borrow.Author.Tests.{lt-ltb}
 use Rattle.geom_lines_planes.specs.declared.tolerance.Tolerance.the-variants.{Own, Session}
+use Rattle.geom_lines_planes.specs.declared.tolerance.Version.{Version}
+use Rattle.geom_lines_planes.specs.declared.tolerance.Version.the-variants.{First, Second}
 use Rattle.geom_carriers.specs.declared.Carrier.the-variants as Carriers
 use Rattle.meaning.specs.Lists.{run, all, joined}
 use Rattle.meaning.specs.Model.{Model, Table, BodyKind, acorn, wire, sheet, solid, general, Sense, positive, negative}
@@ -22,7 +24,7 @@ use Rattle.memory_layout.specs.Decode.{listAt, maybeAt, flagAt, pointAt, vecAt,
 use Rattle.memory_layout.specs.Laid.{bit, sense, kind, maybe, tag, own}
 use Rattle.image_format.specs.Bytes.{little, number, wordsIn, floatsIn, listsIn}
 use Rattle.image_format.specs.Fields.{Fields, marks, wordCounts, floatCounts, listCounts, PRECISION-RECORD, recordImage, fieldsIn, behind, bodyFields, regionFields, shellFields, faceFields, loopFields, finFields, edgeFields, vertexFields, carrierFields, bodyIn, regionIn, shellIn, faceIn, loopIn, finIn, edgeIn, vertexIn, carrierIn}
-use Rattle.image_format.specs.Image.{tableImage, imageOf, countIn, behindRecords, tableBytes, fieldsAt, modelIn}
+use Rattle.image_format.specs.Image.{tableImage, recordsImage, versionImage, imageOf, countIn, behindRecords, tableBytes, fieldsAt, modelOf, versionIn, recordsIn, modelIn}
 use Rattle.image_laws.specs.Numbers.{Below, Bytes, Words, Doubles, Lists, below-first, below-cons, below-at, below-drop, number-below, numbersIn, words-in, length-wordsIn, patterns, floats-are, flat, lists-are}
 use Rattle.image_laws.specs.Records.{Fitting}
 use Rattle.image_laws.specs.Models.{Machine}
@@ -287,10 +289,9 @@ module _ (b : List ℕ) (bytes : Bytes b) where
   unfolding fieldsAt
   whole-at k i = whole-in k _ (behind-bytes k i (tableBytes b k) (table-bytes k))
 
-  -- the model in any bytes is of such numbers and floats
-  pub machine-in : Machine (modelIn b)
-  unfolding modelIn countIn
-  machine-in =
+  machine-of : (v : Version) → Machine (modelOf b v)
+  unfolding modelOf countIn
+  machine-of v =
       record {
         precision = precision-fits (fieldsIn PRECISION-RECORD b) (whole-in PRECISION-RECORD b bytes);
         bodies = λ i _. body-fits (fieldsAt b BODIES i) (whole-at BODIES i);
@@ -304,6 +305,15 @@ module _ (b : List ℕ) (bytes : Bytes b) where
         curves = λ i _. carrier-fits (fieldsAt b CURVES i) (whole-at CURVES i) CURVES refl refl refl;
         surfaces = λ i _. carrier-fits (fieldsAt b SURFACES i) (whole-at SURFACES i) SURFACES refl refl refl;
       }
+
+pub records-bytes : (b : List ℕ) → Bytes b → Bytes (recordsIn b)
+unfolding recordsIn
+records-bytes b h = below-drop 256 (length (versionImage (versionIn b))) b h
+
+-- the model in any bytes is of such numbers and floats
+pub machine-in : (b : List ℕ) → Bytes b → Machine (modelIn b)
+unfolding modelIn
+machine-in b h = machine-of (recordsIn b) (records-bytes b h) (versionIn b)
 
 -- ---- in lent memory
 
@@ -376,6 +386,11 @@ table-image-bytes : {A : Type 0} (k : ℕ) (fields : A → Fields) (t : Table A)
 unfolding tableImage
 table-image-bytes k fields t = joined-bytes (λ i. recordImage k (fields (t .slot i))) (run 0 (t .used)) (λ i. record-bytes k (fields (t .slot i)))
 
+version-bytes : (v : Version) → Bytes (versionImage v)
+unfolding versionImage
+version-bytes First = all-none _
+version-bytes Second = record-bytes 11 _
+
 pub image-bytes : (m : Model) → Bytes (imageOf m)
-unfolding imageOf
-image-bytes m = simp (all-both, record-bytes, table-image-bytes)
+unfolding imageOf recordsImage
+image-bytes m = simp (all-both, version-bytes, record-bytes, table-image-bytes)

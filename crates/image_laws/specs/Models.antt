@@ -1,9 +1,13 @@
--- The image of a model, read back table by table. Assumes nothing.
+-- The image of a model, read back: its version, then table by table. Assumes nothing.
 use Prim.Native.Nat.{ℕ, _<_}
+use native.Mathlib.Omega.{arith}
 use mathlib.Core.Path.{_≡_, sym, ap, _∙_}
 use mathlib.Core.Bool.{true}
 use mathlib.Core.List.{List, [], _∷_, _++_, append-assoc}
 use lib.ListN.{drop}
+use lib.Seq.{drop-append-seam}
+use Rattle.geom_lines_planes.specs.declared.tolerance.Version.{Version}
+use Rattle.geom_lines_planes.specs.declared.tolerance.Version.the-variants.{First, Second}
 use Rattle.meaning.specs.Lists.{every}
 use Rattle.meaning.specs.Model.{Model, largest}
 use Rattle.meaning.specs.Edits.{precisionOk}
@@ -11,8 +15,10 @@ use Rattle.memory_layout.specs.Names.{BODIES, REGIONS, SHELLS, FACES, LOOPS, FI
 use Rattle.memory_layout.specs.Layout.{word, real}
 use Rattle.memory_layout.specs.Laid.{rooms}
 use Rattle.memory_writes.specs.Change.{SameModel}
-use Rattle.image_format.specs.Fields.{PRECISION-RECORD, recordImage, fieldsIn, behind, bodyFields, regionFields, shellFields, faceFields, loopFields, finFields, edgeFields, vertexFields, carrierFields, bodyIn, regionIn, shellIn, faceIn, loopIn, finIn, edgeIn, vertexIn, carrierIn}
-use Rattle.image_format.specs.Image.{precisionFields, tableImage, imageOf, countIn, tableBytes, modelIn, bodyHeld, regionHeld, shellHeld, faceHeld, loopHeld, edgeHeld, vertexHeld, held}
+use Rattle.image_format.specs.Bytes.{words, floats, lists, number}
+use Rattle.image_format.specs.Fields.{Fields, PRECISION-RECORD, VERSION-RECORD, marks, recordImage, fieldsIn, behind, bodyFields, regionFields, shellFields, faceFields, loopFields, finFields, edgeFields, vertexFields, carrierFields, bodyIn, regionIn, shellIn, faceIn, loopIn, finIn, edgeIn, vertexIn, carrierIn}
+use Rattle.image_format.specs.Image.{precisionFields, tableImage, recordsImage, versionImage, imageOf, countIn, tableBytes, modelOf, versionIn, recordsIn, modelIn, bodyHeld, regionHeld, shellHeld, faceHeld, loopHeld, edgeHeld, vertexHeld, held}
+use Rattle.image_laws.specs.Numbers.{number-little}
 use Rattle.image_laws.specs.Records.{Fitting, fields-read, behind-read, body-back, region-back, shell-back, face-back, loop-back, fin-back, edge-back, vertex-back, carrier-back}
 use Rattle.image_laws.specs.Tables.{Written, behind-table, table-read, table-same, held-table, same-third}
 
@@ -30,7 +36,7 @@ pub record Machine (m : Model) : Type 0 where
   pub curves : (i : ℕ) → i < m .curves .used → Fitting CURVES (carrierFields (m .curves .slot i))
   pub surfaces : (i : ℕ) → i < m .surfaces .used → Fitting SURFACES (carrierFields (m .surfaces .slot i))
 
--- ---- the parts of an image
+-- ---- the parts of an image behind its version
 
 -- the precision's record, then the tables
 abbrev parts : Model → List (List ℕ)
@@ -56,14 +62,14 @@ chained (l ∷ r) c = l ++ chained r c
 abbrev from : ℕ → Model → List ℕ → List ℕ
 from n m c = chained (drop n (parts m)) c
 
-image-parts : (m : Model) (c : List ℕ) → imageOf m ++ c ≡ from 0 m c
-unfolding imageOf
+image-parts : (m : Model) (c : List ℕ) → recordsImage m ++ c ≡ from 0 m c
+unfolding recordsImage
 image-parts m c = simp append-assoc
 
--- whatever stands behind the image
+-- whatever stands behind them
 module _ (m : Model) (w : Machine m) (c : List ℕ) where
   abbrev image : List ℕ
-  image = imageOf m ++ c
+  image = recordsImage m ++ c
 
   first : fieldsIn PRECISION-RECORD image ≡ precisionFields m
   first = ap (fieldsIn PRECISION-RECORD) (image-parts m c) ∙ fields-read PRECISION-RECORD (precisionFields m) (from 1 m c) (w .precision)
@@ -108,10 +114,11 @@ module _ (m : Model) (w : Machine m) (c : List ℕ) where
   surfaces : Written image SURFACES carrierFields (m .surfaces) (from 11 m c)
   surfaces = record { fit = w .surfaces; count = counts SURFACES; bytes = behind-table curves }
 
-  pub model-read : SameModel (modelIn (imageOf m ++ c)) m
-  unfolding modelIn
-  model-read =
+  records-read : (v : Version) → v ≡ m .version → SameModel (modelOf image v) m
+  unfolding modelOf
+  records-read v e =
       record {
+        version = e;
         precision = ap (λ f. real (f .floats) PRECISION) first;
         bodies = table-read bodies bodyIn body-back;
         regions = table-read regions regionIn region-back;
@@ -125,12 +132,43 @@ module _ (m : Model) (w : Machine m) (c : List ℕ) where
         surfaces = table-read surfaces carrierIn carrier-back;
       }
 
+-- ---- and the version
+
+-- a record begins with its mark
+record-mark : (k : ℕ) (f : Fields) (s : List ℕ) → word marks k < 0x1_0000 → number 2 (recordImage k f ++ s) ≡ word marks k
+unfolding recordImage
+record-mark k f s h = simp append-assoc (number-little 2 (word marks k) (words (f .words) ++ (floats (f .floats) ++ (lists (f .lists) ++ s))) h)
+
+-- the precision's record does not begin as the version's
+version-back : (v : Version) (s : List ℕ) → number 2 s ≡ word marks PRECISION-RECORD → versionIn (versionImage v ++ s) ≡ v
+unfolding versionIn versionImage
+version-back First s first = rw first
+version-back Second s first = rw (record-mark VERSION-RECORD _ s (omega arith))
+
+records-back : (v : Version) (s : List ℕ) → number 2 s ≡ word marks PRECISION-RECORD → recordsIn (versionImage v ++ s) ≡ s
+unfolding recordsIn
+records-back v s first = rw (version-back v s first) (drop-append-seam (versionImage v) s)
+
+module _ (m : Model) (w : Machine m) (c : List ℕ) where
+  whole-parts : imageOf m ++ c ≡ versionImage (m .version) ++ (recordsImage m ++ c)
+  unfolding imageOf
+  whole-parts = append-assoc (versionImage (m .version)) (recordsImage m) c
+
+  begins : number 2 (recordsImage m ++ c) ≡ word marks PRECISION-RECORD
+  begins = ap (number 2) (image-parts m c) ∙ record-mark PRECISION-RECORD (precisionFields m) (from 1 m c) (omega arith)
+
+  pub model-read : SameModel (modelIn (imageOf m ++ c)) m
+  unfolding modelIn
+  model-read =
+      rw (whole-parts, records-back (m .version) (recordsImage m ++ c) begins)
+      (records-read m w c (versionIn (versionImage (m .version) ++ (recordsImage m ++ c))) (version-back (m .version) (recordsImage m ++ c) begins))
+
 -- ---- models that are the same
 
 module _ (m n : Model) (s : SameModel m n) where
-  pub image-same : imageOf m ≡ imageOf n
-  unfolding imageOf
-  image-same =
+  records-same : recordsImage m ≡ recordsImage n
+  unfolding recordsImage
+  records-same =
       λ i.
       recordImage PRECISION-RECORD (record { words = s .bodies .used i ∷ s .regions .used i ∷ s .shells .used i ∷ s .faces .used i ∷ s .loops .used i ∷ s .fins .used i ∷ s .edges .used i ∷ s .vertices .used i ∷ s .curves .used i ∷ s .surfaces .used i ∷ []; floats = s .precision i ∷ []; lists = [] })
       ++ table-same (s .bodies) BODIES bodyFields i
@@ -143,6 +181,10 @@ module _ (m n : Model) (s : SameModel m n) where
       ++ table-same (s .vertices) VERTICES vertexFields i
       ++ table-same (s .curves) CURVES carrierFields i
       ++ table-same (s .surfaces) SURFACES carrierFields i
+
+  pub image-same : imageOf m ≡ imageOf n
+  unfolding imageOf
+  image-same = λ i. versionImage (s .version i) ++ records-same i
 
   pub held-same : held m ≡ held n
   unfolding held
@@ -167,6 +209,7 @@ module _ (m n : Model) (s : SameModel m n) where
 pub same-models : (k m n : Model) → SameModel k m → SameModel k n → SameModel m n
 same-models k m n p q =
     record {
+      version = sym (p .version) ∙ q .version;
       precision = sym (p .precision) ∙ q .precision;
       bodies = same-third (p .bodies) (q .bodies);
       regions = same-third (p .regions) (q .regions);

@@ -1,19 +1,23 @@
--- W-202: "Reading what was written gives the same model, and an image that the reader accepts is the one the writer makes." (docs/IMAGE.md has the format.) Assumes nothing.
+-- W-202: "Reading what was written gives the same model, and an image that the reader accepts is the one the writer makes." (docs/IMAGE.md has the format.) W-211: images of both versions. Assumes nothing.
 use native.Mathlib.Omega.{arith}
-use lib.ListN.{length, length-append}
+use lib.ListN.{length, drop, length-append}
 use mathlib.Core.Path.{_≡_, refl, sym, ap, _∙_, subst}
 use mathlib.Core.Bool.{true}
 use mathlib.Core.List.{List, [], _∷_, _++_, append-nil}
 use Prim.Native.Nat.{ℕ}
 use lib.Ieee.{Float}
+use Rattle.geom_lines_planes.specs.declared.tolerance.Version.the-variants.{First, Second}
+use Rattle.meaning.specs.Lists.{joined}
 use Rattle.meaning.specs.Model.{Model}
 use Rattle.meaning_list_laws.specs.Tests.{and-both}
+use Rattle.memory_layout.specs.Layout.{word}
 use Rattle.memory_layout.specs.Decode.{decode}
 use Rattle.memory_layout.specs.Readable.{readable}
 use Rattle.memory_layout.specs.Laws.{fit-of}
 use Rattle.memory_writes.specs.Change.{SameModel}
-use Rattle.image_format.specs.Bytes.{sameBytes}
-use Rattle.image_format.specs.Image.{imageOf, modelIn, held, accepted}
+use Rattle.image_format.specs.Bytes.{little, floats, lists, number, sameBytes}
+use Rattle.image_format.specs.Fields.{VERSION-RECORD, marks, recordImage}
+use Rattle.image_format.specs.Image.{recordsImage, versionImage, imageOf, modelOf, versionIn, modelIn, held, accepted}
 use Rattle.image_laws.specs.Numbers.{Bytes, Words, Doubles, same-bytes, same-itself}
 use Rattle.image_laws.specs.Models as Models
 use Rattle.image_laws.specs.Models.{Machine}
@@ -81,3 +85,26 @@ images-tell-models m n v w e =
 
 pub models-tell-images : (b c : List ℕ) → accepted b ≡ true → accepted c ≡ true → SameModel (modelIn b) (modelIn c) → b ≡ c
 models-tell-images b c p q s = sym (accepted-is-written b p) ∙ Models.image-same (modelIn b) (modelIn c) s ∙ accepted-is-written c q
+
+-- ---- W-211, the versions
+
+-- "A version 2 model's image begins with one more record, with a mark of its own and the version"
+pub second-has-one-more : (m : Model) → m .version ≡ Second → imageOf m ≡ versionImage Second ++ recordsImage m
+unfolding imageOf
+second-has-one-more m e = rw e
+
+-- "A version 1 model is written as before"
+pub first-is-as-before : (m : Model) → m .version ≡ First → imageOf m ≡ recordsImage m
+unfolding imageOf versionImage
+first-is-as-before m e = rw e
+
+-- "9 for an image whose version record names anything but 2": one that is accepted and begins with that record's mark has a 2 behind it
+pub version-record-names-2 : (b : List ℕ) → accepted b ≡ true → number 2 b ≡ word marks VERSION-RECORD → number 4 (drop 2 b) ≡ 2
+version-record-names-2 b h e =
+    ap (λ (c : List ℕ). number 4 (drop 2 c)) (sym (accepted-is-written b h) ∙ second-has-one-more (modelIn b) second) ∙ named
+  where
+    second : modelIn b .version ≡ Second
+    second = unfold modelIn modelOf versionIn in rw e
+
+    named : number 4 (drop 2 (versionImage Second ++ recordsImage (modelIn b))) ≡ 2
+    named = unfold versionImage recordImage little joined floats lists number in refl

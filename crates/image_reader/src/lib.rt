@@ -1,14 +1,17 @@
-// For callers: `read_image`, a model from an image (W-202). `specs/Answers.antt` says what it answers and leaves; docs/IMAGE.md has the format.
+// For callers: `read_image`, a model from an image (W-202, W-211). `specs/Answers.antt` says what it answers and leaves; docs/IMAGE.md has the format.
 use image_accepted::accepted;
 use image_accepted::count_in;
+use image_accepted::version::records_in;
+use image_accepted::version::version_in;
 use image_loading::load;
+use memory_layout::names::VERSION;
 use memory_readable::lent_ok;
 ghost use mathlib.Core.Path.{_≡_};
 ghost use Prim.Native.Nat.{_≤_};
 ghost use lib.ListN.{length};
 ghost use Rattle.image_reader.specs.Answers.{roomFor, readNumber, readWords, readReals};
 
-// Has each table a slot for every record of the image?
+// Has each table a slot for every one of an image's records?
 fn room_for(room: &[usize; 10], bytes: &[u8]) -> bool
     requires { ⌜ 50 ≤ length (now bytes) ⌝ }
     ensures { λ r. ⌜ r ≡ roomFor (now (room .entry)) (now (bytes .entry)) ⌝ }
@@ -32,7 +35,7 @@ fn read_refusal(room: &[usize; 10], words: &[u32], reals: &[f64], bytes: &[u8]) 
     if !accepted(bytes) {
         return 9;
     }
-    if !room_for(room, bytes) {
+    if !room_for(room, records_in(bytes)) {
         return 8;
     }
     0
@@ -48,6 +51,7 @@ pub fn read_image(room: &[usize; 10], words: &mut [u32], reals: &mut [f64], byte
     if n != 0 {
         return n;
     }
-    load(room, words, reals, bytes);
+    words[VERSION] = version_in(bytes);
+    load(room, words, reals, records_in(bytes));
     0
 }

@@ -28,8 +28,9 @@ ghost use Rattle.image_format.specs.Bytes.{words, floats};
 ghost use Rattle.image_format.specs.Fields.{marks, wordCounts, floatCounts, listCounts, recordImage};
 ghost use Rattle.image_records.specs.Kept.{fieldsOf, Kept, idBehind, threeIds, headOf, unsaid, tailOf, placesOf, listsOf, recordLength, Listed};
 
-// By table, and last the precision's record, as `specs/Fields.antt` of `image_format` has them: the marks, BO, RE, SH, FA, LO, FI, ED, VE, CU, SU, PR; how many numbers, floats and lists.
-const MARKS: [u32; 11] = [
+// By table, and last the precision's record and the version's, as `specs/Fields.antt` of `image_format` has them: the marks, BO, RE, SH, FA, LO, FI, ED, VE, CU, SU, PR, VN; how many numbers, floats
+// and lists.
+const MARKS: [u32; 12] = [
     0x4f42,
     0x4552,
     0x4853,
@@ -41,13 +42,14 @@ const MARKS: [u32; 11] = [
     0x5543,
     0x5553,
     0x5250,
+    0x4e56,
 ];
 
-const WORDS: [usize; 11] = [1, 2, 1, 7, 1, 4, 7, 1, 1, 1, 10];
+const WORDS: [usize; 12] = [1, 2, 1, 7, 1, 4, 7, 1, 1, 1, 10, 1];
 
-const FLOATS: [usize; 11] = [0, 0, 0, 0, 0, 0, 1, 4, 6, 6, 1];
+const FLOATS: [usize; 12] = [0, 0, 0, 0, 0, 0, 1, 4, 6, 6, 1, 0];
 
-const LISTS: [usize; 11] = [1, 1, 3, 1, 1, 0, 1, 0, 0, 0, 0];
+const LISTS: [usize; 12] = [1, 1, 3, 1, 1, 0, 1, 0, 0, 0, 0, 0];
 
 // By table: the first of its lists; where the tag stands that may leave the last floats unsaid, the tag that does, and how many they are.
 const FIRST_LISTS: [usize; 10] = [

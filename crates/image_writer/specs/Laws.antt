@@ -5,18 +5,21 @@ use native.Mathlib.Numerals.{add-one}
 use native.Mathlib.Omega.{arith}
 use mathlib.Core.Path.{_≡_, refl, sym, ap, _∙_}
 use mathlib.Core.Logic.{inl, inr}
-use mathlib.Core.List.{List, [], _++_, append-assoc, append-nil}
+use mathlib.Core.List.{List, [], _∷_, _++_, append-assoc, append-nil}
 use lib.Dec.{leb}
 use lib.ListN.{length, take, drop, length-append}
 use lib.Seq.{length-take-le}
 use lib.Ieee.{Float, nan}
-use borrow.Author.Tests.{leb-true}
+use Rattle.geom_lines_planes.specs.declared.tolerance.Version.{Version}
+use Rattle.geom_lines_planes.specs.declared.tolerance.Version.the-variants.{First, Second}
+use borrow.Author.Tests.{leb-true, eq-eqb, ne-eqb}
 use Rattle.geom_lines_planes.specs.Refuse.{_unless_}
 use Rattle.meaning.specs.Lists.{run, joined}
 use Rattle.meaning_list_laws.specs.Lists.{joined-none, joined-snoc}
 use Rattle.meaning_list_laws.specs.Tests.{then-zero, unless-zero}
+use Rattle.memory_layout.specs.Names.{VERSION}
 use Rattle.memory_layout.specs.Layout.{wordStrides, word, wordAt, realAt, wordsOf, realsOf}
-use Rattle.memory_layout.specs.Decode.{decode}
+use Rattle.memory_layout.specs.Decode.{versionOf, decode}
 use Rattle.memory_layout.specs.Readable.{readable}
 use Rattle.memory_layout.specs.Fit.{Sized, Fit}
 use Rattle.memory_layout.specs.Laws.{capacity-le, words-length, reals-length, before-tables, used-inside, precision-there, fit-of}
@@ -24,12 +27,12 @@ use Rattle.memory_layout.specs.TableRows.{rows-fit, table-rows, words-row, real
 use Rattle.memory_writes.specs.Put.{over}
 use Rattle.image_format.specs.Bytes.{little, words, floats, lists}
 use Rattle.image_format.specs.Fields.{PRECISION-RECORD, recordImage}
-use Rattle.image_format.specs.Image.{precisionFields, tableImage, imageOf}
+use Rattle.image_format.specs.Image.{precisionFields, tableImage, recordsImage, versionImage, imageOf}
 use Rattle.image_laws.specs.Numbers.{length-little, length-words, length-floats}
 use Rattle.image_records.specs.Kept.{fieldsOf, Kept, recordLength}
 use Rattle.image_records.specs.Laws.{entries, written-out, over-turn, listed-of, image-length, record-small}
 use Rattle.image_writer.specs.Answers.{writeNumber}
-use Rattle.image_writer.specs.Rows.{rowWords, rowReals, rowsImage, total, rowsLength, Rows, WordRows, tableLength, tablesLength, Used, precisionBytes, tableOf, tablesOf}
+use Rattle.image_writer.specs.Rows.{rowWords, rowReals, rowsImage, total, rowsLength, Rows, WordRows, tableLength, tablesLength, Used, versionBytes, imageLength, precisionBytes, tableOf, tablesOf}
 
 -- ---- sums
 
@@ -146,7 +149,7 @@ pub word-rows : (room w : List ℕ) → Used room w → (k : ℕ) → k < 10 →
 word-rows room w u k h =
     let c = u .counts k h in
     let d = capacity-le room (u .small) k h in
-    let p = rows-fit w 10 wordStrides room k (word w k) h c (u .words) in
+    let p = rows-fit w 11 wordStrides room k (word w k) h c (u .words) in
     (p .0, record { table = h; few = omega arith; words = p .1; listed = λ i g. rw words-row (u .listed k i h g) })
 
 pub table-image : (room w : List ℕ) (x : List Float) (k : ℕ) → rowsImage k (drop (wordAt room k 0) w) (drop (realAt room k 0) x) (word w k) ≡ tableOf room w x k
@@ -160,7 +163,7 @@ table-length room w k = simp words-row
 -- ---- the precision's record: a mark, the ten counts, a float
 
 pub ten-words : (room w : List ℕ) (x : List Float) → Sized room w x → 10 ≤ length w
-ten-words room w x s = let a = s .words in let b = before-tables 10 wordStrides room 10 in omega arith
+ten-words room w x s = let a = s .words in let b = before-tables 11 wordStrides room 10 in omega arith
 
 module _ (w : List ℕ) (x : List Float) (g : 10 ≤ length w) (h : 1 ≤ length x) where
   counts-long : length (words (take 10 w)) ≡ 40
@@ -180,10 +183,10 @@ module _ (w : List ℕ) (x : List Float) (g : 10 ≤ length w) (h : 1 ≤ length
       let f = float-long in
       omega arith
 
-  pub precision-written : (b : List ℕ) → 50 ≤ length b
-      → over 42 (floats (take 1 x)) (over 2 (words (take 10 w)) (over 0 (little 2 0x5250) b)) ≡ over 0 (precisionBytes w x) b
+  pub precision-written : (at : ℕ) (b : List ℕ) → at + 50 ≤ length b
+      → over (at + 42) (floats (take 1 x)) (over (at + 2) (words (take 10 w)) (over at (little 2 0x5250) b)) ≡ over at (precisionBytes w x) b
   unfolding precisionBytes
-  precision-written b q =
+  precision-written at b q =
       let m : List ℕ = little 2 0x5250 in
       let l : List ℕ = words (take 10 w) in
       let r : List ℕ = floats (take 1 x) in
@@ -191,8 +194,36 @@ module _ (w : List ℕ) (x : List Float) (g : 10 ≤ length w) (h : 1 ≤ length
       let d = length-little 2 0x5250 in
       let e = counts-long in
       let f = float-long in
-      let u : over 2 l (over 0 m b) ≡ over 0 (m ++ l) b = over-turn 0 2 m l (over 0 m b) b (omega arith) refl (omega arith) in
-      over-turn 0 42 (m ++ l) r (over 2 l (over 0 m b)) b (omega arith) u (omega arith)
+      let u : over (at + 2) l (over at m b) ≡ over at (m ++ l) b = over-turn at (at + 2) m l (over at m b) b (omega arith) refl (omega arith) in
+      over-turn at (at + 42) (m ++ l) r (over (at + 2) l (over at m b)) b (omega arith) u (omega arith)
+
+-- ---- the version's record: a mark, and 2
+
+pub first-bytes : (w : List ℕ) → (word w VERSION ≡ 2 → ⊥) → versionBytes w ≡ []
+unfolding versionBytes versionImage
+first-bytes w e = rw (ne-eqb (word w VERSION) 2 e)
+
+pub second-bytes : (w : List ℕ) → word w VERSION ≡ 2 → versionBytes w ≡ little 2 0x4e56 ++ words (2 ∷ [])
+unfolding versionBytes versionImage recordImage floats lists
+second-bytes w e = rw (eq-eqb (word w VERSION) 2 e) (simp append-nil)
+
+pub second-long : (w : List ℕ) → word w VERSION ≡ 2 → length (versionBytes w) ≡ 6
+second-long w e = ap length (second-bytes w e) ∙ length-append (little 2 0x4e56) (words (2 ∷ [])) ∙ rw (length-little 2 0x4e56, length-words (2 ∷ []))
+
+pub version-short : (w : List ℕ) → length (versionBytes w) ≤ 6
+unfolding versionBytes
+version-short w = short (versionOf (word w VERSION))
+  where
+    short : (v : Version) → length (versionImage v) ≤ 6
+    short First = unfold versionImage in omega arith
+    short Second = unfold versionImage recordImage little joined floats lists in omega arith
+
+pub version-written : (w b : List ℕ) → word w VERSION ≡ 2 → 6 ≤ length b → over 2 (words (2 ∷ [])) (over 0 (little 2 0x4e56) b) ≡ over 0 (versionBytes w) b
+version-written w b e h =
+    let c = length-little 2 0x4e56 in
+    let d = length-words (2 ∷ []) in
+    over-turn 0 2 (little 2 0x4e56) (words (2 ∷ [])) (over 0 (little 2 0x4e56) b) b (omega arith) refl (omega arith)
+    ∙ ap (λ (i : List ℕ). over 0 i b) (sym (second-bytes w e))
 
 -- ---- the tables
 
@@ -221,12 +252,27 @@ module _ (room w : List ℕ) (x : List Float) where
       ∙ ap (λ (l : List ℕ). little 2 0x5250 ++ words l ++ floats (entries nan x 1)) (written-out 0 w 10 (ten-words room w x s))
       ∙ ap (λ (l : List Float). little 2 0x5250 ++ words (take 10 w) ++ floats l) (written-out nan x 1 (precision-there room w x s))
 
-  behind-precision : imageOf (decode room w x) ≡ recordImage PRECISION-RECORD (precisionFields (decode room w x)) ++ tablesOf room w x 10
-  unfolding tablesOf tableOf imageOf tableImage decode fieldsOf run joined
+  behind-precision : recordsImage (decode room w x) ≡ recordImage PRECISION-RECORD (precisionFields (decode room w x)) ++ tablesOf room w x 10
+  unfolding tablesOf tableOf recordsImage tableImage decode fieldsOf run joined
   behind-precision = simp (append-assoc, append-nil)
 
-  pub image-parts : Sized room w x → imageOf (decode room w x) ≡ precisionBytes w x ++ tablesOf room w x 10
-  image-parts s = behind-precision ∙ ap (λ (p : List ℕ). p ++ tablesOf room w x 10) (precision-parts s)
+  behind-version : imageOf (decode room w x) ≡ versionBytes w ++ recordsImage (decode room w x)
+  unfolding imageOf decode versionBytes
+  behind-version = refl
+
+  image-parts : Sized room w x → imageOf (decode room w x) ≡ versionBytes w ++ (precisionBytes w x ++ tablesOf room w x 10)
+  image-parts s = behind-version ∙ ap (λ (r : List ℕ). versionBytes w ++ r) (behind-precision ∙ ap (λ (p : List ℕ). p ++ tablesOf room w x 10) (precision-parts s))
+
+  -- the image behind the precision's record
+  pub whole-long : Sized room w x → length (imageOf (decode room w x)) ≡ length (versionBytes w) + 50 + length (tablesOf room w x 10)
+  whole-long s =
+      let p : List ℕ = precisionBytes w x in
+      let t : List ℕ = tablesOf room w x 10 in
+      let a = ap length (image-parts s) in
+      let b = length-append (versionBytes w) (p ++ t) in
+      let c = length-append p t in
+      let d = precision-long w x (ten-words room w x s) (precision-there room w x s) in
+      omega arith
 
   -- ---- as long as the code says
 
@@ -237,13 +283,10 @@ module _ (room w : List ℕ) (x : List Float) where
         ∙ rows-long k (drop (wordAt room k 0) w) (drop (realAt room k 0) x) (word w k) (rows-of room w x f k h)
         ∙ table-length room w k
 
-    pub image-long : length (imageOf (decode room w x)) ≡ tablesLength room w 10
-    unfolding tablesLength tablesOf
+    pub image-long : length (imageOf (decode room w x)) ≡ imageLength room w
+    unfolding imageLength tablesLength tablesOf
     image-long =
-        let s = f .sized in
-        let a = ap length (image-parts s) in
-        let b = length-append (precisionBytes w x) (tablesOf room w x 10) in
-        let c = precision-long w x (ten-words room w x s) (precision-there room w x s) in
+        let a = whole-long (f .sized) in
         let d = each-long (tableOf room w x) (tableLength room w) 10 table-long in
         omega arith
 
@@ -283,22 +326,17 @@ tables-length-small room w u k h = let a = tables-small room w u k h in omega ar
 -- ---- the calls
 
 pub whole-written : (room w : List ℕ) (x : List Float) (b : List ℕ) → Sized room w x → length (imageOf (decode room w x)) ≤ length b
-    → over 50 (tablesOf room w x 10) (over 0 (precisionBytes w x) b) ≡ over 0 (imageOf (decode room w x)) b
+    → over (length (versionBytes w) + 50) (tablesOf room w x 10) (over (length (versionBytes w)) (precisionBytes w x) (over 0 (versionBytes w) b)) ≡ over 0 (imageOf (decode room w x)) b
 whole-written room w x b s h =
+    let v : List ℕ = versionBytes w in
+    let p : List ℕ = precisionBytes w x in
     let t : List ℕ = tablesOf room w x 10 in
-    let a = ap length (image-parts room w x s) in
-    let c = length-append (precisionBytes w x) t in
+    let a = whole-long room w x s in
+    let c = length-append v p in
     let d = precision-long w x (ten-words room w x s) (precision-there room w x s) in
-    over-turn 0 50 (precisionBytes w x) t (over 0 (precisionBytes w x) b) b (omega arith) refl (omega arith)
-    ∙ ap (λ (i : List ℕ). over 0 i b) (sym (image-parts room w x s))
-
--- the image behind the precision's record
-pub whole-long : (room w : List ℕ) (x : List Float) → Sized room w x → length (imageOf (decode room w x)) ≡ 50 + length (tablesOf room w x 10)
-whole-long room w x s =
-    let a = ap length (image-parts room w x s) in
-    let c = length-append (precisionBytes w x) (tablesOf room w x 10) in
-    let d = precision-long w x (ten-words room w x s) (precision-there room w x s) in
-    omega arith
+    let u : over (length v) p (over 0 v b) ≡ over 0 (v ++ p) b = over-turn 0 (length v) v p (over 0 v b) b (omega arith) refl (omega arith) in
+    over-turn 0 (length v + 50) (v ++ p) t (over (length v) p (over 0 v b)) b (omega arith) u (omega arith)
+    ∙ ap (λ (i : List ℕ). over 0 i b) (append-assoc v p t ∙ sym (image-parts room w x s))
 
 -- an image that is written
 pub record Open (room w : List ℕ) (x : List Float) (b : List ℕ) : Type 0 where

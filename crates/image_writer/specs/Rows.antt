@@ -1,14 +1,17 @@
--- The image as the code makes it: the precision's record, then table by table, record by record; and its length. No reader of a public promise needs this file. Definitions only.
+-- The image as the code makes it: the version's record and the precision's, then table by table, record by record; and its length. No reader of a public promise needs this file. Definitions only.
 use Prim.Native.Nat.{ℕ, zero, suc, _+_, _*_, _≤_, _<_}
 use mathlib.Core.List.{List, _++_}
 use lib.ListN.{length, take}
 use lib.Ieee.{Float}
 use Rattle.meaning.specs.Lists.{run, joined}
+use Rattle.memory_layout.specs.Names.{VERSION}
 use Rattle.memory_layout.specs.Layout.{wordStrides, realStrides, word, wordsNeeded, wordsOf, realsOf}
+use Rattle.memory_layout.specs.Decode.{versionOf}
 use Rattle.memory_layout.specs.Fit.{Small}
 use Rattle.memory_layout.specs.TableRows.{row, TableRows}
 use Rattle.image_format.specs.Bytes.{little, words, floats}
 use Rattle.image_format.specs.Fields.{PRECISION-RECORD, marks, recordImage}
+use Rattle.image_format.specs.Image.{versionImage}
 use Rattle.image_records.specs.Kept.{fieldsOf, Kept, recordLength, Listed}
 
 -- ---- records of table k that stand one behind the other in the words w and the floats x
@@ -43,7 +46,10 @@ pub record WordRows (k n : ℕ) (w : List ℕ) : Type 0 where
   pub words : word wordStrides k * n ≤ length w
   pub listed : (i : ℕ) → i < n → Listed k (rowWords k w i)
 
--- ---- the tables
+-- ---- the version's record, and the tables
+
+unfoldable pub versionBytes : List ℕ → List ℕ
+versionBytes w = versionImage (versionOf (word w VERSION))
 
 module _ (room w : List ℕ) where
   unfoldable pub tableLength : ℕ → ℕ
@@ -52,6 +58,9 @@ module _ (room w : List ℕ) where
   -- the precision's record, and k tables
   unfoldable pub tablesLength : ℕ → ℕ
   tablesLength k = 50 + total tableLength k
+
+  unfoldable pub imageLength : ℕ
+  imageLength = length (versionBytes w) + tablesLength 10
 
   -- the tables' words, whose records have their lists whole
   pub record Used : Type 0 where

@@ -1,4 +1,4 @@
-// For callers: `image_length`, how many bytes a model's image takes, and `write_image`, which writes it (W-202). `specs/Answers.antt` says what they answer and leave; docs/IMAGE.md has the format.
+// For callers: `image_length`, how many bytes a model's image takes, and `write_image`, which writes it (W-202, W-211). `specs/Answers.antt` says what they answer and leave; docs/IMAGE.md has the format.
 // Inner: the functions that go through the tables, which ask for what `readable` has tested.
 use image_bytes::put_floats;
 use image_bytes::put_mark;
@@ -9,6 +9,7 @@ use memory_layout::layout::real_at;
 use memory_layout::layout::real_stride;
 use memory_layout::layout::word_at;
 use memory_layout::layout::word_stride;
+use memory_layout::names::VERSION;
 use memory_readable::readable;
 use memory_readable::reals_row;
 use memory_readable::words_row;
@@ -20,7 +21,7 @@ ghost use Rattle.memory_layout.specs.Fit.{Fit};
 ghost use Rattle.memory_writes.specs.Put.{over};
 ghost use Rattle.image_format.specs.Image.{imageOf};
 ghost use Rattle.image_writer.specs.Answers.{lengthAnswer, writeNumber, writeAnswer, writtenBytes};
-ghost use Rattle.image_writer.specs.Rows.{rowsImage, rowsLength, Rows, WordRows, tableLength, tablesLength, Used, precisionBytes, tableOf, tablesOf};
+ghost use Rattle.image_writer.specs.Rows.{rowsImage, rowsLength, Rows, WordRows, tableLength, tablesLength, Used, versionBytes, imageLength, precisionBytes, tableOf, tablesOf};
 
 // How many bytes, or the refusal's number.
 pub enum Length {
@@ -28,10 +29,14 @@ pub enum Length {
     Refused(u32),
 }
 
-// The mark of the precision's record, PR, and how many bytes the record takes.
+// The mark of the precision's record, PR, and that of the version's, VN; and how many bytes each record takes.
 const PRECISION_MARK: u32 = 0x5250;
 
 const PRECISION_LENGTH: usize = 50;
+
+const VERSION_MARK: u32 = 0x4e56;
+
+const VERSION_LENGTH: usize = 6;
 
 const TABLES: usize = 10;
 
@@ -77,6 +82,25 @@ fn tables_length(room: &[usize; 10], words: &[u32]) -> usize
     long
 }
 
+// The version's record, which a model of version 2 has.
+fn version_length(words: &[u32]) -> usize
+    requires { ⌜ 11 ≤ length (now words) ⌝ }
+    ensures { λ r. ⌜ r ≡ length (versionBytes (now (words .entry))) ⌝ }
+{
+    if words[VERSION] == 2 {
+        return VERSION_LENGTH;
+    }
+    0
+}
+
+// All records.
+fn whole_length(room: &[usize; 10], words: &[u32]) -> usize
+    requires { ⌜ Used (now room) (now words) ⌝ }
+    ensures { λ r. ⌜ r ≡ imageLength (now (room .entry)) (now (words .entry)) ⌝ }
+{
+    version_length(words) + tables_length(room, words)
+}
+
 // ---- written
 
 // The n records of table k whose words and floats these are: where they end.
@@ -118,14 +142,29 @@ fn write_table(
     write_rows(k, n, &words[from..], &reals[floats..], bytes, at)
 }
 
-// The precision's record: a mark, the ten used counts, the precision.
-fn write_precision(words: &[u32], reals: &[f64], bytes: &mut [u8])
-    requires { ⌜ (10 ≤ length (now words)) × (1 ≤ length (now reals)) × (50 ≤ length (now bytes)) ⌝ }
-    ensures { λ _. ⌜ now (bytes .exit) ≡ over 0 (precisionBytes (now (words .entry)) (now (reals .entry))) (now (bytes .entry)) ⌝ }
+// The version's record, of a model of version 2: a mark, the version. Where it ends.
+fn write_version(words: &[u32], bytes: &mut [u8]) -> usize
+    requires { ⌜ (11 ≤ length (now words)) × (length (versionBytes (now words)) ≤ length (now bytes)) ⌝ }
+    ensures end { λ r. ⌜ r ≡ length (versionBytes (now (words .entry))) ⌝ }
+    ensures written { λ _. ⌜ now (bytes .exit) ≡ over 0 (versionBytes (now (words .entry))) (now (bytes .entry)) ⌝ }
 {
-    put_mark(bytes, 0, PRECISION_MARK);
-    put_words(bytes, 2, &words[..10]);
-    put_floats(bytes, 42, &reals[..1]);
+    if words[VERSION] != 2 {
+        return 0;
+    }
+    let version = [2];
+    put_mark(bytes, 0, VERSION_MARK);
+    put_words(bytes, 2, &version);
+    VERSION_LENGTH
+}
+
+// The precision's record: a mark, the ten used counts, the precision.
+fn write_precision(words: &[u32], reals: &[f64], bytes: &mut [u8], at: usize)
+    requires { ⌜ (10 ≤ length (now words)) × (1 ≤ length (now reals)) × (at + 50 ≤ length (now bytes)) ⌝ }
+    ensures { λ _. ⌜ now (bytes .exit) ≡ over at (precisionBytes (now (words .entry)) (now (reals .entry))) (now (bytes .entry)) ⌝ }
+{
+    put_mark(bytes, at, PRECISION_MARK);
+    put_words(bytes, at + 2, &words[..10]);
+    put_floats(bytes, at + 42, &reals[..1]);
 }
 
 // Every used record: where they end.
@@ -157,8 +196,9 @@ fn write_whole(room: &[usize; 10], words: &[u32], reals: &[f64], bytes: &mut [u8
     ensures end { λ r. ⌜ r ≡ length (imageOf (decode (now (room .entry)) (now (words .entry)) (now (reals .entry)))) ⌝ }
     ensures written { λ _. ⌜ now (bytes .exit) ≡ over 0 (imageOf (decode (now (room .entry)) (now (words .entry)) (now (reals .entry)))) (now (bytes .entry)) ⌝ }
 {
-    write_precision(words, reals, bytes);
-    write_tables(room, words, reals, bytes, PRECISION_LENGTH)
+    let at = write_version(words, bytes);
+    write_precision(words, reals, bytes, at);
+    write_tables(room, words, reals, bytes, at + PRECISION_LENGTH)
 }
 
 // ---- the calls
@@ -170,7 +210,7 @@ pub fn image_length(room: &[usize; 10], words: &[u32], reals: &[f64]) -> Length
     if !readable(room, words, reals) {
         return Length::Refused(9);
     }
-    Length::Is(tables_length(room, words))
+    Length::Is(whole_length(room, words))
 }
 
 // Why no image is written, else 0: 9, then 8 for bytes that are too short.
@@ -180,7 +220,7 @@ fn write_refusal(room: &[usize; 10], words: &[u32], reals: &[f64], bytes: &[u8])
     if !readable(room, words, reals) {
         return 9;
     }
-    if bytes.len() < tables_length(room, words) {
+    if bytes.len() < whole_length(room, words) {
         return 8;
     }
     0

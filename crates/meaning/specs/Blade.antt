@@ -6,6 +6,8 @@ use mathlib.Core.Option.{Option, none, some}
 use lib.Ieee.{Float, neg}
 use Rattle.float_vectors.specs.declared.vector.Point3.{Point3}
 use Rattle.geom_lines_planes.specs.declared.tolerance.Tolerance.the-variants.{Own, Session}
+use Rattle.geom_lines_planes.specs.declared.tolerance.Version.{Version}
+use Rattle.geom_lines_planes.specs.declared.tolerance.Version.the-variants.{First}
 use Rattle.geom_carriers.specs.declared.Carrier.{Carrier}
 use Rattle.geom_carriers.specs.declared.Carrier.the-variants as Carriers
 use Rattle.meaning.specs.Floats.{_/ᶠ_, floatOf}
@@ -21,6 +23,7 @@ bladeFace = record { front = some 0; back = none; loops = 0 ∷ []; surface = so
 abbrev pub blade : Model
 blade =
     record {
+      version = First;
       precision = milli;
       bodies = tableOf (record { kind = sheet; regions = 0 ∷ [] }) [];
       regions = tableOf (aRegion 0 false (0 ∷ [])) [];
@@ -43,6 +46,7 @@ waferFace f b l = record { front = f; back = b; loops = l; surface = some 0; sen
 abbrev pub wafer : Model
 wafer =
     record {
+      version = First;
       precision = milli;
       bodies = tableOf (record { kind = solid; regions = 0 ∷ 1 ∷ [] }) [];
       regions = tableOf (aRegion 0 false (0 ∷ [])) (aRegion 0 true (1 ∷ []) ∷ []);
@@ -73,37 +77,40 @@ abbrev pub put : {A : Type 0} → ℕ → A → Table A → Table A
 put i r t = edited t i (λ old. r)
 
 abbrev pub withPrecision : Float → Model → Model
-withPrecision p m = record { precision = p; bodies = m .bodies; regions = m .regions; shells = m .shells; faces = m .faces; loops = m .loops; fins = m .fins; edges = m .edges; vertices = m .vertices; curves = m .curves; surfaces = m .surfaces }
+withPrecision p m = record { version = m .version; precision = p; bodies = m .bodies; regions = m .regions; shells = m .shells; faces = m .faces; loops = m .loops; fins = m .fins; edges = m .edges; vertices = m .vertices; curves = m .curves; surfaces = m .surfaces }
+
+abbrev pub withVersion : Version → Model → Model
+withVersion v m = record { version = v; precision = m .precision; bodies = m .bodies; regions = m .regions; shells = m .shells; faces = m .faces; loops = m .loops; fins = m .fins; edges = m .edges; vertices = m .vertices; curves = m .curves; surfaces = m .surfaces }
 
 abbrev pub withBody : ℕ → Body → Model → Model
-withBody i r m = record { precision = m .precision; bodies = put i r (m .bodies); regions = m .regions; shells = m .shells; faces = m .faces; loops = m .loops; fins = m .fins; edges = m .edges; vertices = m .vertices; curves = m .curves; surfaces = m .surfaces }
+withBody i r m = record { version = m .version; precision = m .precision; bodies = put i r (m .bodies); regions = m .regions; shells = m .shells; faces = m .faces; loops = m .loops; fins = m .fins; edges = m .edges; vertices = m .vertices; curves = m .curves; surfaces = m .surfaces }
 
 abbrev pub withRegion : ℕ → Region → Model → Model
-withRegion i r m = record { precision = m .precision; bodies = m .bodies; regions = put i r (m .regions); shells = m .shells; faces = m .faces; loops = m .loops; fins = m .fins; edges = m .edges; vertices = m .vertices; curves = m .curves; surfaces = m .surfaces }
+withRegion i r m = record { version = m .version; precision = m .precision; bodies = m .bodies; regions = put i r (m .regions); shells = m .shells; faces = m .faces; loops = m .loops; fins = m .fins; edges = m .edges; vertices = m .vertices; curves = m .curves; surfaces = m .surfaces }
 
 abbrev pub withShell : ℕ → Shell → Model → Model
-withShell i r m = record { precision = m .precision; bodies = m .bodies; regions = m .regions; shells = put i r (m .shells); faces = m .faces; loops = m .loops; fins = m .fins; edges = m .edges; vertices = m .vertices; curves = m .curves; surfaces = m .surfaces }
+withShell i r m = record { version = m .version; precision = m .precision; bodies = m .bodies; regions = m .regions; shells = put i r (m .shells); faces = m .faces; loops = m .loops; fins = m .fins; edges = m .edges; vertices = m .vertices; curves = m .curves; surfaces = m .surfaces }
 
 abbrev pub withFace : ℕ → Face → Model → Model
-withFace i r m = record { precision = m .precision; bodies = m .bodies; regions = m .regions; shells = m .shells; faces = put i r (m .faces); loops = m .loops; fins = m .fins; edges = m .edges; vertices = m .vertices; curves = m .curves; surfaces = m .surfaces }
+withFace i r m = record { version = m .version; precision = m .precision; bodies = m .bodies; regions = m .regions; shells = m .shells; faces = put i r (m .faces); loops = m .loops; fins = m .fins; edges = m .edges; vertices = m .vertices; curves = m .curves; surfaces = m .surfaces }
 
 abbrev pub withLoop : ℕ → Loop → Model → Model
-withLoop i r m = record { precision = m .precision; bodies = m .bodies; regions = m .regions; shells = m .shells; faces = m .faces; loops = put i r (m .loops); fins = m .fins; edges = m .edges; vertices = m .vertices; curves = m .curves; surfaces = m .surfaces }
+withLoop i r m = record { version = m .version; precision = m .precision; bodies = m .bodies; regions = m .regions; shells = m .shells; faces = m .faces; loops = put i r (m .loops); fins = m .fins; edges = m .edges; vertices = m .vertices; curves = m .curves; surfaces = m .surfaces }
 
 abbrev pub withFin : ℕ → Fin → Model → Model
-withFin i r m = record { precision = m .precision; bodies = m .bodies; regions = m .regions; shells = m .shells; faces = m .faces; loops = m .loops; fins = put i r (m .fins); edges = m .edges; vertices = m .vertices; curves = m .curves; surfaces = m .surfaces }
+withFin i r m = record { version = m .version; precision = m .precision; bodies = m .bodies; regions = m .regions; shells = m .shells; faces = m .faces; loops = m .loops; fins = put i r (m .fins); edges = m .edges; vertices = m .vertices; curves = m .curves; surfaces = m .surfaces }
 
 abbrev pub withEdge : ℕ → Edge → Model → Model
-withEdge i r m = record { precision = m .precision; bodies = m .bodies; regions = m .regions; shells = m .shells; faces = m .faces; loops = m .loops; fins = m .fins; edges = put i r (m .edges); vertices = m .vertices; curves = m .curves; surfaces = m .surfaces }
+withEdge i r m = record { version = m .version; precision = m .precision; bodies = m .bodies; regions = m .regions; shells = m .shells; faces = m .faces; loops = m .loops; fins = m .fins; edges = put i r (m .edges); vertices = m .vertices; curves = m .curves; surfaces = m .surfaces }
 
 abbrev pub withVertex : ℕ → Vertex → Model → Model
-withVertex i r m = record { precision = m .precision; bodies = m .bodies; regions = m .regions; shells = m .shells; faces = m .faces; loops = m .loops; fins = m .fins; edges = m .edges; vertices = put i r (m .vertices); curves = m .curves; surfaces = m .surfaces }
+withVertex i r m = record { version = m .version; precision = m .precision; bodies = m .bodies; regions = m .regions; shells = m .shells; faces = m .faces; loops = m .loops; fins = m .fins; edges = m .edges; vertices = put i r (m .vertices); curves = m .curves; surfaces = m .surfaces }
 
 abbrev pub withCurve : ℕ → Carrier → Model → Model
-withCurve i r m = record { precision = m .precision; bodies = m .bodies; regions = m .regions; shells = m .shells; faces = m .faces; loops = m .loops; fins = m .fins; edges = m .edges; vertices = m .vertices; curves = put i r (m .curves); surfaces = m .surfaces }
+withCurve i r m = record { version = m .version; precision = m .precision; bodies = m .bodies; regions = m .regions; shells = m .shells; faces = m .faces; loops = m .loops; fins = m .fins; edges = m .edges; vertices = m .vertices; curves = put i r (m .curves); surfaces = m .surfaces }
 
 abbrev pub withSurface : ℕ → Carrier → Model → Model
-withSurface i r m = record { precision = m .precision; bodies = m .bodies; regions = m .regions; shells = m .shells; faces = m .faces; loops = m .loops; fins = m .fins; edges = m .edges; vertices = m .vertices; curves = m .curves; surfaces = put i r (m .surfaces) }
+withSurface i r m = record { version = m .version; precision = m .precision; bodies = m .bodies; regions = m .regions; shells = m .shells; faces = m .faces; loops = m .loops; fins = m .fins; edges = m .edges; vertices = m .vertices; curves = m .curves; surfaces = put i r (m .surfaces) }
 
 -- ---- the blade changed
 

@@ -7,7 +7,7 @@ use Rattle.float_exact.specs.Exact.{exactSum}
 use Rattle.interval_arithmetic.specs.Ops.{pointI, addI, subI, mulI, sqrI, signI}
 use Rattle.float_vectors.specs.Space.{finitePoint, minus, along, scaledV, dotV, crossV}
 use Rattle.interval_vectors.specs.Vectors.{differenceI, pointI3, vectorI, dotI}
-use Rattle.geom_lines_planes.specs.Geometry.{linePoint, nearest, sizeF, planeDistance}
+use Rattle.geom_lines_planes.specs.Geometry.{linePoint, nearest, sizeF, planeDistance, rule, effective}
 use Rattle.geom_carriers.specs.Queries.{theLine, lineRefusal, thePlane, planeRefusal}
 use Rattle.geom_signs.specs.Signs.{increasingS, spanS, apartS, offPlaneS, offCurveS}
 use Rattle.meaning.specs.Lists.{run, allBelow, all, any, every, member, count, countIf, place, joined, meet, meets}
@@ -21,7 +21,7 @@ use Rattle.meaning.specs.Formed.{tablesPass, idsOk, listedOk, closed, lo
 
 unfoldable pub computing : ℕ
 unfolding toBits ofBits add sub mul div neg round ofInt isNan lt le eq nextUp nextDown ONE exactSum pointI addI subI mulI sqrI signI finitePoint minus along scaledV dotV
-    crossV differenceI pointI3 vectorI dotI linePoint nearest sizeF planeDistance theLine lineRefusal thePlane planeRefusal increasingS spanS apartS offPlaneS
+    crossV differenceI pointI3 vectorI dotI linePoint nearest sizeF planeDistance rule effective theLine lineRefusal thePlane planeRefusal increasingS spanS apartS offPlaneS
     offCurveS run allBelow all any every member count countIf place joined meet meets extended changed carrierAt firstRefusal firstOf faceWalk
     facesRefusal edgeWalk edgesRefusal vertexWalk verticesRefusal flatFace straightEdge requirePolyhedral grown boxOf boxRefusal solidSides
     sideRefusal sidesRefusal volumeRefusal fan polygonVolume sideVolume sumVolumes lo hi parameter splitPoint test7 test8 test9 test10 onPlane

@@ -130,7 +130,7 @@ unfoldable pub curveTest : Model → ℕ → ℕ → ℕ → List Finding
 curveTest m e c v =
     let p = pointOf m v in
     let line = theLine (curve m c) in
-    let sign = offCurveS p (linePoint line (nearest line p)) (effective (vertex m v .tolerance) (m .precision)) (effective (edge m e .tolerance) (m .precision)) in
+    let sign = offCurveS p (linePoint line (nearest line p)) (effective (m .version) (vertex m v .tolerance) (m .precision)) (effective (m .version) (edge m e .tolerance) (m .precision)) in
     geometryError (about ofEdge e) (projectRefusal (curve m c) p) (offCurve sign v)
 
 -- `point_on_surface`: reason n where "the float size of normal·(p - origin) is above the tolerance"
@@ -143,7 +143,7 @@ pointOnSurface m s p tolerance n a =
 unfoldable pub endTests : Model → ℕ → ℕ → ℕ → ℕ → List Finding
 endTests m e c s v =
     cond (has (m .vertices) v)
-    (curveTest m e c v ++ pointOnSurface m s (pointOf m v) (effective (vertex m v .tolerance) (m .precision)) 23 (about ofVertex v))
+    (curveTest m e c v ++ pointOnSurface m s (pointOf m v) (effective (m .version) (vertex m v .tolerance) (m .precision)) 23 (about ofVertex v))
     []
 
 -- "An end has projected unless its curve query gave 25, 26 or refusal 7"
@@ -157,7 +157,7 @@ sampleAt t0 t1 n k = t0 +ᶠ (t1 -ᶠ t0) *ᶠ floatOf k /ᶠ floatOf (suc n)
 
 unfoldable pub sampleTest : Model → ℕ → ℕ → ℕ → Float → List Finding
 sampleTest m e c s t =
-    let on = pointOnSurface m s (linePoint (theLine (curve m c)) t) (effective (edge m e .tolerance) (m .precision)) 24 (about ofEdge e) in
+    let on = pointOnSurface m s (linePoint (theLine (curve m c)) t) (effective (m .version) (edge m e .tolerance) (m .precision)) 24 (about ofEdge e) in
     geometryError (about ofEdge e) (evalRefusal (curve m c) t) on
 
 -- "then samples, only if both ends exist and projected"

@@ -8,6 +8,7 @@ use lib.Dec.{ltb}
 use lib.Ieee.{Float}
 use Rattle.float_vectors.specs.declared.vector.Point3.{Point3}
 use Rattle.geom_lines_planes.specs.declared.tolerance.Tolerance.{Tolerance}
+use Rattle.geom_lines_planes.specs.declared.tolerance.Version.{Version}
 use Rattle.geom_carriers.specs.declared.Carrier.{Carrier}
 use Rattle.geom_carriers.specs.declared.Found.{Found}
 use Rattle.geom_carriers.specs.declared.Found.the-variants.{There, Missing}
@@ -67,7 +68,9 @@ pub record Table (A : Type 0) : Type 0 where
   pub used : ℕ
   pub slot : ℕ → A
 
+-- W-211, "A model names its version" of the drawing practice
 pub record Model : Type 0 where
+  pub version : Version
   pub precision : Float
   pub bodies : Table Body
   pub regions : Table Region

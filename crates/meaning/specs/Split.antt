@@ -108,7 +108,7 @@ within Positive = 1
 within Unresolved = 7
 
 unfoldable pub onPlane : Model → ℕ → Plane → Float → ℕ
-onPlane m e s u = within (offPlaneS s (linePoint (carrier m e) u) (effective (edge m e .tolerance) (m .precision)))
+onPlane m e s u = within (offPlaneS s (linePoint (carrier m e) u) (effective (m .version) (edge m e .tolerance) (m .precision)))
 
 -- 11. one fin: "points to another edge 1; loop missing 2; not exactly once in its loop 1; face missing 2; no surface 1; surface missing 2;
 -- not a plane 7; then at lo, hi and the split parameter, .."
@@ -265,6 +265,7 @@ unfoldable pub afterSplit : Model → ℕ → Float → Model
 afterSplit m e t =
     let old = edge m e in
     record {
+      version = m .version;
       precision = m .precision;
       bodies = m .bodies;
       regions = m .regions;

@@ -8,6 +8,7 @@ use lib.Ieee.{Float, binary64, round, neg}
 use Rattle.float_vectors.specs.declared.vector.Point3.{Point3}
 use Rattle.float_vectors.specs.declared.vector.Vec3.{Vec3}
 use Rattle.geom_lines_planes.specs.declared.tolerance.Tolerance.the-variants.{Session}
+use Rattle.geom_lines_planes.specs.declared.tolerance.Version.the-variants.{First}
 use Rattle.geom_carriers.specs.declared.Carrier.{Carrier}
 use Rattle.geom_carriers.specs.declared.Carrier.the-variants as Carriers
 use Rattle.meaning.specs.Floats.{floatOf}
@@ -102,6 +103,7 @@ cornerVertex i = vertexAt (corner i)
 abbrev pub stone : Model
 stone =
     record {
+      version = First;
       precision = milli;
       bodies = tableOf (record { kind = solid; regions = 0 ∷ 1 ∷ [] }) [];
       regions = tableOf (aRegion 0 false (0 ∷ [])) (aRegion 0 true (1 ∷ []) ∷ []);

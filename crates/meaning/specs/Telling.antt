@@ -7,6 +7,7 @@ use mathlib.Core.List.{List, [], _∷_, map}
 use mathlib.Core.Option.{none, some}
 use lib.Ieee.{Float, binary64, neg, toBits}
 use Rattle.geom_lines_planes.specs.declared.tolerance.Tolerance.the-variants.{Own}
+use Rattle.geom_lines_planes.specs.declared.tolerance.Version.the-variants.{Second}
 use Rattle.meaning.specs.Floats.{_/ᶠ_, floatOf}
 use Rattle.meaning.specs.Model.{Model, positive}
 use Rattle.meaning.specs.Refuse.{given}
@@ -15,7 +16,7 @@ use Rattle.meaning.specs.Inquire.{boxOf, sideVolume}
 use Rattle.meaning.specs.Split.{test10, onPlane, test11-fin, test13, boundsRefusal, afterSplit, modelAfter, afterAll}
 use Rattle.meaning.specs.Faults.{Finding, skipped, fault, sampleAt, curveTest, sampleTests, carried, findings, reportOf, checkRefusal, counts, wholeSolid, fitToSaw, otherRing}
 use Rattle.meaning.specs.Stone.{at, plane, up, corner, stone, right, line, anEdge, aLoop}
-use Rattle.meaning.specs.Blade.{blade, withRegion, withShell, withLoop, withFin, withVertex, withSurface, quarter, onAxis, asSolid, edgeIs, endsAre, curveIs, finsAre, faceIs, loopsAre, shellIs, startAt, endAt, otherCurve, otherSurface, tolerantEdge, askew, room, withCurve, regionsAre, wafer, asSheet, allVoid, solidShells, solidFaces, backIs}
+use Rattle.meaning.specs.Blade.{blade, withVersion, withRegion, withShell, withLoop, withFin, withVertex, withSurface, quarter, onAxis, asSolid, edgeIs, endsAre, curveIs, finsAre, faceIs, loopsAre, shellIs, startAt, endAt, otherCurve, otherSurface, tolerantEdge, askew, room, withCurve, regionsAre, wafer, asSheet, allVoid, solidShells, solidFaces, backIs}
 use Rattle.meaning.specs.Computing.{computing}
 
 -- ---- walks
@@ -97,6 +98,14 @@ half-precision : onPlane blade 0 (record { origin = at (floatOf 0) (floatOf 0) (
 unfolding computing
 half-precision = refl
 
+-- 11: an own tolerance of 0.0001, below the session's, off by 0.0004: the rule of the model's version (W-211)
+abbrev offOwn : Model → ℕ
+offOwn m = onPlane m 0 (record { origin = at (floatOf 0) (floatOf 0) (floatOf 4 /ᶠ floatOf 10000); normal = up }) (floatOf 0)
+
+by-version : map (λ m. offOwn (tolerantEdge (floatOf 1 /ᶠ floatOf 10000) m)) (blade ∷ withVersion Second blade ∷ []) ≡ 1 ∷ 0 ∷ []
+unfolding computing
+by-version = refl
+
 -- 11: between two ends on the plane
 between-the-ends : test11-fin askew 0 (floatOf 1 /ᶠ floatOf 5) 0 ≡ 1
 unfolding computing
@@ -106,6 +115,11 @@ between-the-ends = refl
 fins-together : test13 (room 4 2 3 2 3 2) blade 0 ≡ 8
 unfolding computing
 fins-together = refl
+
+-- ---- a split keeps the version (W-211)
+version-kept : afterSplit (withVersion Second blade) 0 quarter .version ≡ Second
+unfolding afterSplit
+version-kept = refl
 
 -- ---- what a split writes: the blade's edge, which is a wire edge of the shell too
 

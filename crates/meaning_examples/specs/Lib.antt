@@ -1,3 +1,4 @@
 pub mod Trial
 pub mod Cases
 pub mod Reports
+pub mod Versions

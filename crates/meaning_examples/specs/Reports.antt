@@ -8,6 +8,7 @@ use lib.ListN.{drop}
 use lib.Ieee.{Float, nan, inf, binary64, neg, toBits}
 use Rattle.float_vectors.specs.declared.vector.Point3.{Point3}
 use Rattle.geom_lines_planes.specs.declared.tolerance.Tolerance.the-variants.{Own, Session}
+use Rattle.geom_lines_planes.specs.declared.tolerance.Version.the-variants.{First}
 use Rattle.geom_lines_planes.specs.Geometry.{effective}
 use Rattle.meaning.specs.Floats.{_/ᶠ_, floatOf}
 use Rattle.meaning.specs.Model.{positive, negative, Model, largest}
@@ -125,7 +126,7 @@ unfolding computing
 reports-hold = refl
 
 -- a sample is ((t1 - t0)·k)/(n + 1), and not (t1 - t0)·(k/(n + 1)); the session's tolerance is 0.0005
-samples-hold : map (toBits binary64) (sampleAt (floatOf 0) (floatOf 3) 4 1 ∷ effective Session milli ∷ []) ≡ 0x3fe3_3333_3333_3333 ∷ 0x3f40_624d_d2f1_a9fc ∷ []
+samples-hold : map (toBits binary64) (sampleAt (floatOf 0) (floatOf 3) 4 1 ∷ effective First Session milli ∷ []) ≡ 0x3fe3_3333_3333_3333 ∷ 0x3f40_624d_d2f1_a9fc ∷ []
 unfolding computing
 samples-hold = refl
 

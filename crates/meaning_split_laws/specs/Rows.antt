@@ -56,7 +56,7 @@ isUnresolved Unresolved = true
 
 -- 11. "squared plane distance less squared edge tolerance: positive 1, unresolved 7", at the parameter u on the plane s
 abbrev pub distance : Model → ℕ → Plane → Float → Sign
-distance m e s u = offPlaneS s (linePoint (carrier m e) u) (effective (edge m e .tolerance) (m .precision))
+distance m e s u = offPlaneS s (linePoint (carrier m e) u) (effective (m .version) (edge m e .tolerance) (m .precision))
 
 abbrev pub planeSteps : Model → ℕ → Plane → Float → List Step
 planeSteps m e s u = 1 when isPositive (distance m e s u) ∷ 7 when isUnresolved (distance m e s u) ∷ []

@@ -21,13 +21,13 @@ use Rattle.meaning_split_laws.specs.Decided.{facts-pass}
 -- ---- the model after a split, with other shells, loops or edges
 
 abbrev withShells : Table Shell → Model → Model
-withShells t m = record { precision = m .precision; bodies = m .bodies; regions = m .regions; shells = t; faces = m .faces; loops = m .loops; fins = m .fins; edges = m .edges; vertices = m .vertices; curves = m .curves; surfaces = m .surfaces }
+withShells t m = record { version = m .version; precision = m .precision; bodies = m .bodies; regions = m .regions; shells = t; faces = m .faces; loops = m .loops; fins = m .fins; edges = m .edges; vertices = m .vertices; curves = m .curves; surfaces = m .surfaces }
 
 abbrev withLoops : Table Loop → Model → Model
-withLoops t m = record { precision = m .precision; bodies = m .bodies; regions = m .regions; shells = m .shells; faces = m .faces; loops = t; fins = m .fins; edges = m .edges; vertices = m .vertices; curves = m .curves; surfaces = m .surfaces }
+withLoops t m = record { version = m .version; precision = m .precision; bodies = m .bodies; regions = m .regions; shells = m .shells; faces = m .faces; loops = t; fins = m .fins; edges = m .edges; vertices = m .vertices; curves = m .curves; surfaces = m .surfaces }
 
 abbrev withEdges : Table Edge → Model → Model
-withEdges t m = record { precision = m .precision; bodies = m .bodies; regions = m .regions; shells = m .shells; faces = m .faces; loops = m .loops; fins = m .fins; edges = t; vertices = m .vertices; curves = m .curves; surfaces = m .surfaces }
+withEdges t m = record { version = m .version; precision = m .precision; bodies = m .bodies; regions = m .regions; shells = m .shells; faces = m .faces; loops = m .loops; fins = m .fins; edges = t; vertices = m .vertices; curves = m .curves; surfaces = m .surfaces }
 
 -- the edge e replaced by one half, and the other half new
 abbrev halved : Model → ℕ → (Edge → Edge) → (Edge → Edge) → Table Edge

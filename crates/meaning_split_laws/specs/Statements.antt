@@ -73,6 +73,10 @@ gives-back-any = splits-restore
 pub carriers-stay : (x : Limits) (m : Model) (l : List Cut) → (afterAll x m l .curves ≡ m .curves) × (afterAll x m l .surfaces ≡ m .surfaces)
 carriers-stay = carriers-kept
 
+-- (W-211) "A model names its version and keeps it through splits"
+pub version-stays : (x : Limits) (m : Model) (l : List Cut) → afterAll x m l .version ≡ m .version
+version-stays x m l = gives-back-any x m l .version
+
 -- and what was added to a list of wire edges stands right after the old edge (of a new fin 1 tells: every fin ends where the next starts)
 pub wire-edge-follows : (x : Limits) (m : Model) (e : ℕ) (t : Float) (r : EdgeSplit)
     → WellFormed x m → splitLineEdge x m e t ≡ given r → (s : ℕ) → s < m .shells .used

@@ -74,6 +74,7 @@ module _ (m : Model) where
         vertices = omega arith;
         curves = refl;
         surfaces = refl;
+        version = refl;
         precision = refl;
         body-regions = λ i h. refl;
         region-shells = λ i h. refl;
@@ -157,6 +158,7 @@ module _ (m : Model) (e : ℕ) (t : Float) (he : e < m .edges .used) where
         vertices = omega arith;
         curves = refl;
         surfaces = refl;
+        version = refl;
         precision = refl;
         body-regions = λ i h. refl;
         region-shells = λ i h. refl;
@@ -242,6 +244,7 @@ module _ (a b c : Model) (s r : List ℕ) (f : Restored a b s struckFrom) (g : R
         loops = g .loops ∙ f .loops;
         curves = g .curves ∙ f .curves;
         surfaces = g .surfaces ∙ f .surfaces;
+        version = g .version ∙ f .version;
         precision = g .precision ∙ f .precision;
         fins = omega (arith, f .fins, g .fins);
         edges = omega (arith, f .edges, g .edges);
@@ -318,6 +321,7 @@ restored-whole m after split ids r =
       vertices = r .vertices;
       curves = r .curves;
       surfaces = r .surfaces;
+      version = r .version;
       precision = r .precision;
       body-regions = λ i h. r .body-regions i h ∙ sifted-all (λ j. ltb j (m .regions .used)) (body m i .regions) (ids .body-regions i h);
       region-shells = λ i h. r .region-shells i h ∙ sifted-all (λ j. ltb j (m .shells .used)) (region m i .shells) (ids .region-shells i h);

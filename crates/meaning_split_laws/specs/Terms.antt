@@ -64,6 +64,7 @@ pub record Restored (m after : Model) (split : List ℕ) (start : ℕ → List �
   pub loop-fins : (i : ℕ) → i < m .loops .used → struckFrom (m .fins .used) (loop after i .fins) ≡ start (m .fins .used) (loop m i .fins)
   pub edge-fins : (i : ℕ) → i < m .edges .used → struckFrom (m .fins .used) (edge after i .fins) ≡ start (m .fins .used) (edge m i .fins)
   -- every other field is as it was
+  pub version : after .version ≡ m .version
   pub precision : after .precision ≡ m .precision
   pub body-kind : (i : ℕ) → i < m .bodies .used → body after i .kind ≡ body m i .kind
   pub region-body : (i : ℕ) → i < m .regions .used → region after i .body ≡ region m i .body

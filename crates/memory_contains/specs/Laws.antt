@@ -1,12 +1,17 @@
--- What the proof of `contains` cites. Assumes nothing.
+-- What the proofs of `contains` and `version` cite. Assumes nothing.
 use Prim.Native.Nat.{ℕ, _<_}
 use mathlib.Core.Path.{_≡_, refl}
+use mathlib.Core.Bool.{Bool, true, false, _||_, cond}
 use mathlib.Core.List.{List}
 use native.Mathlib.Omega.{arith}
-use lib.Dec.{ltb}
+use lib.Dec.{eqb, ltb}
+use borrow.Author.Tests.{eqb-true}
 use lib.Ieee.{Float}
 use Rattle.memory_layout.specs.Layout.{word}
-use Rattle.memory_layout.specs.Decode.{decode}
+use Rattle.memory_layout.specs.Decode.{versionOf, decode}
+use Rattle.memory_layout.specs.Readable.{versionOk}
+use Rattle.memory_layout.specs.Laid.{versionTag}
+use Rattle.geom_lines_planes.specs.declared.tolerance.Version.the-variants.{First, Second}
 use Rattle.memory_contains.specs.declared.EntityRef.{EntityRef}
 use Rattle.memory_contains.specs.declared.EntityRef.the-variants as Entities
 use Rattle.memory_contains.specs.Answers.{contained}
@@ -34,3 +39,12 @@ contained-at room w x (Entities.Loop i) = refl
 contained-at room w x (Entities.Fin i) = refl
 contained-at room w x (Entities.Edge i) = refl
 contained-at room w x (Entities.Vertex i) = refl
+
+-- a version that refusal 9 lets through is its own number
+pub version-itself : (n : ℕ) → versionOk n ≡ true → n ≡ versionTag (versionOf n)
+version-itself n = go (eqb n 1) (eqb n 2) (eqb-true n 1) (eqb-true n 2)
+  where
+    go : (t u : Bool) → (t ≡ true → n ≡ 1) → (u ≡ true → n ≡ 2) → (t || u) ≡ true → n ≡ versionTag (cond u Second First)
+    go t true a b e = b refl
+    go true false a b e = a refl
+    go false false a b e = cc

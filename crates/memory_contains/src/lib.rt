@@ -1,4 +1,4 @@
-// For callers: `contains`, whether a record is there, and `precision`, the session's (model.rs). Each tests 9 first; an id that a call is
+// For callers: `contains`, whether a record is there, `precision`, the session's (model.rs), and `version`, the model's (W-211). Each tests 9 first; an id that a call is
 // asked with is a usize, as a place in a list is. Inner: `refusal`, which the lookups share.
 use memory_layout::names::BODIES;
 use memory_layout::names::EDGES;
@@ -8,16 +8,23 @@ use memory_layout::names::LOOPS;
 use memory_layout::names::PRECISION;
 use memory_layout::names::REGIONS;
 use memory_layout::names::SHELLS;
+use memory_layout::names::VERSION;
 use memory_layout::names::VERTICES;
 use memory_readable::readable;
 ghost use mathlib.Core.Path.{_≡_};
 ghost use Prim.Native.Nat.{_<_};
-ghost use Rattle.memory_contains.specs.Answers.{precisionAnswer, containsAnswer};
+ghost use Rattle.memory_contains.specs.Answers.{precisionAnswer, versionAnswer, containsAnswer};
 ghost use Rattle.memory_contains.specs.Inner.{tableOf, idOf, refusalAt};
 
 // The session precision, or the refusal's number.
 pub enum PrecisionFound {
     Is(f64),
+    Refused(u32),
+}
+
+// The version, 1 or 2, or the refusal's number.
+pub enum VersionFound {
+    Is(u32),
     Refused(u32),
 }
 
@@ -60,6 +67,15 @@ pub fn precision(room: &[usize; 10], words: &[u32], reals: &[f64]) -> PrecisionF
         return PrecisionFound::Refused(9);
     }
     PrecisionFound::Is(reals[PRECISION])
+}
+
+pub fn version(room: &[usize; 10], words: &[u32], reals: &[f64]) -> VersionFound
+    ensures { λ r. ⌜ r ≡ versionAnswer (now (room .entry)) (now (words .entry)) (now (reals .entry)) ⌝ }
+{
+    if !readable(room, words, reals) {
+        return VersionFound::Refused(9);
+    }
+    VersionFound::Is(words[VERSION])
 }
 
 fn table_of(entity: EntityRef) -> usize

@@ -10,10 +10,12 @@ use Rattle.float_vectors.specs.declared.vector.Point3.{Point3}
 use Rattle.float_vectors.specs.declared.vector.Vec3.{Vec3}
 use Rattle.geom_lines_planes.specs.declared.tolerance.Tolerance.{Tolerance}
 use Rattle.geom_lines_planes.specs.declared.tolerance.Tolerance.the-variants.{Own, Session}
+use Rattle.geom_lines_planes.specs.declared.tolerance.Version.{Version}
+use Rattle.geom_lines_planes.specs.declared.tolerance.Version.the-variants.{First, Second}
 use Rattle.geom_carriers.specs.declared.Carrier.{Carrier}
 use Rattle.geom_carriers.specs.declared.Carrier.the-variants as Carriers
 use Rattle.meaning.specs.Model.{Model, Table, BodyKind, acorn, wire, sheet, solid, general, Sense, positive, negative, Body, Region, Shell, Face, Loop, Fin, Edge, Vertex}
-use Rattle.memory_layout.specs.Names.{BODIES, REGIONS, SHELLS, FACES, LOOPS, FINS, EDGES, VERTICES, CURVES, SURFACES, AT-BODY-KIND, AT-BODY-REGIONS, AT-REGION-BODY, AT-REGION-SOLID, AT-REGION-SHELLS, AT-SHELL-REGION, AT-SHELL-FACES, AT-SHELL-WIRES, AT-SHELL-ACORNS, AT-FACE-FRONT, AT-FACE-BACK, AT-FACE-SURFACE, AT-FACE-SENSE, AT-FACE-LOOPS, AT-LOOP-FACE, AT-LOOP-FINS, AT-FIN-LOOP, AT-FIN-EDGE, AT-FIN-SENSE, AT-FIN-PCURVE, AT-EDGE-START, AT-EDGE-END, AT-EDGE-CURVE, AT-EDGE-TOLERANCE, AT-EDGE-FINS, AT-VERTEX-TOLERANCE, AT-CARRIER-TAG, PRECISION, FLOAT-EDGE-TOLERANCE, FLOAT-VERTEX-POINT, FLOAT-VERTEX-TOLERANCE, FLOAT-CARRIER-ORIGIN, FLOAT-CARRIER-DIRECTION}
+use Rattle.memory_layout.specs.Names.{BODIES, REGIONS, SHELLS, FACES, LOOPS, FINS, EDGES, VERTICES, CURVES, SURFACES, AT-BODY-KIND, AT-BODY-REGIONS, AT-REGION-BODY, AT-REGION-SOLID, AT-REGION-SHELLS, AT-SHELL-REGION, AT-SHELL-FACES, AT-SHELL-WIRES, AT-SHELL-ACORNS, AT-FACE-FRONT, AT-FACE-BACK, AT-FACE-SURFACE, AT-FACE-SENSE, AT-FACE-LOOPS, AT-LOOP-FACE, AT-LOOP-FINS, AT-FIN-LOOP, AT-FIN-EDGE, AT-FIN-SENSE, AT-FIN-PCURVE, AT-EDGE-START, AT-EDGE-END, AT-EDGE-CURVE, AT-EDGE-TOLERANCE, AT-EDGE-FINS, AT-VERTEX-TOLERANCE, AT-CARRIER-TAG, VERSION, PRECISION, FLOAT-EDGE-TOLERANCE, FLOAT-VERTEX-POINT, FLOAT-VERTEX-TOLERANCE, FLOAT-CARRIER-ORIGIN, FLOAT-CARRIER-DIRECTION}
 use Rattle.memory_layout.specs.Layout.{word, real, wordsOf, realsOf}
 
 -- ---- what stands at a place of a record
@@ -39,6 +41,10 @@ kindOf (suc zero) = wire
 kindOf (suc (suc zero)) = sheet
 kindOf (suc (suc (suc zero))) = solid
 kindOf (suc (suc (suc (suc n)))) = general
+
+-- the version, 1 or 2, which names itself
+abbrev pub versionOf : ℕ → Version
+versionOf n = cond (eqb n 2) Second First
 
 -- an optional tolerance: its tag among the words, the tolerance among the floats
 abbrev pub toleranceOf : ℕ → Float → Tolerance
@@ -99,6 +105,7 @@ module _ (room w : List ℕ) (x : List Float) where
   unfoldable pub decode : Model
   decode =
       record {
+        version = versionOf (word w VERSION);
         precision = real x PRECISION;
         bodies = table BODIES (λ s _. bodyOf s);
         regions = table REGIONS (λ s _. regionOf s);

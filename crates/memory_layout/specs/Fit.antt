@@ -6,9 +6,9 @@ use mathlib.Core.List.{List}
 use lib.ListN.{length}
 use lib.Ieee.{Float}
 use Rattle.meaning.specs.Edits.{precisionOk}
-use Rattle.memory_layout.specs.Names.{PRECISION}
+use Rattle.memory_layout.specs.Names.{VERSION, PRECISION}
 use Rattle.memory_layout.specs.Layout.{wordStrides, realStrides, largestTables, word, real, wordsNeeded, realsNeeded, wordsOf, realsOf}
-use Rattle.memory_layout.specs.Readable.{recordOk}
+use Rattle.memory_layout.specs.Readable.{versionOk, recordOk}
 use Rattle.memory_layout.specs.Entries.{listTables, listPlaces, listLimits}
 
 -- the capacities are no larger than the largest tables
@@ -47,6 +47,7 @@ pub record Sized (room w : List ℕ) (x : List Float) : Type 0 where
 -- the memory is readable
 pub record Fit (room w : List ℕ) (x : List Float) : Type 0 where
   pub sized : Sized room w x
+  pub version : versionOk (word w VERSION) ≡ true
   pub precision : precisionOk (real x PRECISION) ≡ true
   pub rows : (k i : ℕ) → k < 10 → i < word w k → recordOk k (wordsOf room w k i) (realsOf room x k i) ≡ true
 

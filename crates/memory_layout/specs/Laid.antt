@@ -11,13 +11,15 @@ use Rattle.float_vectors.specs.declared.vector.Point3.{Point3}
 use Rattle.float_vectors.specs.declared.vector.Vec3.{Vec3}
 use Rattle.geom_lines_planes.specs.declared.tolerance.Tolerance.{Tolerance}
 use Rattle.geom_lines_planes.specs.declared.tolerance.Tolerance.the-variants.{Own, Session}
+use Rattle.geom_lines_planes.specs.declared.tolerance.Version.{Version}
+use Rattle.geom_lines_planes.specs.declared.tolerance.Version.the-variants.{First, Second}
 use Rattle.geom_carriers.specs.declared.Carrier.{Carrier}
 use Rattle.geom_carriers.specs.declared.Carrier.the-variants as Carriers
 use Rattle.meaning.specs.Lists.{run, joined}
 use Rattle.meaning.specs.Model.{Model, Table, BodyKind, acorn, wire, sheet, solid, general, Sense, positive, negative, Body, Region, Shell, Face, Loop, Fin, Edge, Vertex}
 use Rattle.meaning.specs.Computing.{computing}
 use Rattle.memory_layout.specs.Decode.{listAt, shellOf, faceOf, finOf}
-use Rattle.memory_layout.specs.Readable.{bodyOk, regionOk, faceOk, finOk, edgeOk, vertexOk, carrierOk}
+use Rattle.memory_layout.specs.Readable.{versionOk, bodyOk, regionOk, faceOk, finOk, edgeOk, vertexOk, carrierOk}
 
 -- ---- a record as words and floats
 
@@ -42,6 +44,10 @@ maybe (some i) = 1 ∷ i ∷ []
 -- a list with room for n entries
 abbrev pub listed : ℕ → List ℕ → List ℕ
 listed n l = length l ∷ take n (l ++ replicate n 0)
+
+abbrev pub versionTag : Version → ℕ
+versionTag First = 1
+versionTag Second = 2
 
 abbrev pub tag : Tolerance → ℕ
 tag (Own t) = 1
@@ -89,6 +95,7 @@ rooms m =
 abbrev pub words : Model → List ℕ
 words m =
     rooms m
+    ++ (versionTag (m .version) ∷ [])
     ++ each (m .bodies) (λ r. kind (r .kind) ∷ listed 16 (r .regions))
     ++ each (m .regions) (λ r. r .body ∷ bit (r .solid) ∷ listed 16 (r .shells))
     ++ each (m .shells) (λ r. r .region ∷ listed 512 (r .faces) ++ listed 256 (r .wireEdges) ++ listed 64 (r .acornVertices))
@@ -144,3 +151,7 @@ tags-known : tagged bodyOk 0 4
     ≡ replicate 14 (true ∷ false ∷ [])
 unfolding computing
 tags-known = refl
+
+-- the version is neither 0 nor 3
+versions-known : map versionOk (0 ∷ 1 ∷ 2 ∷ 3 ∷ []) ≡ false ∷ true ∷ true ∷ false ∷ []
+versions-known = refl

@@ -18,7 +18,7 @@ use Rattle.meaning_list_laws.specs.Tests.{and-both, every-at, allBelow-at, then
 use Rattle.memory_layout.specs.Layout.{wordStrides, realStrides, largestTables, word, real, base, recordAt, wordAt, realAt, wordsNeeded, realsNeeded, wordsOf, realsOf}
 use lib.Ieee.{Float}
 use Rattle.memory_layout.specs.Decode.{listAt, decode}
-use Rattle.memory_layout.specs.Readable.{ownOk, recordOk, roomOk, countsOk, tableOk, tablesOk, lentOk, sizedOk, readable}
+use Rattle.memory_layout.specs.Readable.{ownOk, versionOk, recordOk, roomOk, countsOk, tableOk, tablesOk, lentOk, sizedOk, readable}
 use Rattle.memory_layout.specs.Entries.{listTables, listPlaces, listLimits, listOf, entryRefusal}
 use Rattle.memory_layout.specs.Fit.{Small, Strides, Inside, Lent, Sized, Fit, Held, Lists}
 
@@ -91,14 +91,14 @@ part-length l at n h = length-take-le n (drop at l) (simp length-drop (omega ari
 pub words-length : (room w : List ℕ) (k i : ℕ) → Inside (wordsNeeded room) (length w) room k i → length (wordsOf room w k i) ≡ word wordStrides k
 unfolding wordsOf
 words-length room w k i h =
-    part-length w (wordAt room k i) (word wordStrides k) (le-trans (record-inside 10 wordStrides room k i (h .table) (h .slot)) (h .enough))
+    part-length w (wordAt room k i) (word wordStrides k) (le-trans (record-inside 11 wordStrides room k i (h .table) (h .slot)) (h .enough))
 
 pub reals-length : (room : List ℕ) (x : List Float) (k i : ℕ) → Inside (realsNeeded room) (length x) room k i → length (realsOf room x k i) ≡ word realStrides k
 unfolding realsOf
 reals-length room x k i h =
     part-length x (realAt room k i) (word realStrides k) (le-trans (record-inside 1 realStrides room k i (h .table) (h .slot)) (h .enough))
 
--- the used counts, and the precision, lie before the tables
+-- the used counts and the version, and the precision, lie before the tables
 pub before-tables : (from : ℕ) (strides room : List ℕ) (k : ℕ) → from ≤ base from strides room k
 unfolding base
 before-tables from strides room k = base-mono from strides room 0 k zero-le
@@ -142,10 +142,12 @@ used-inside room w x k i s h g =
 pub fit-of : (room w : List ℕ) (x : List Float) → readable room w x ≡ true → Fit room w x
 unfolding readable tablesOk tableOk
 fit-of room w x e =
-    let a = and-both (sizedOk room w x && precisionOk (real x 0)) (tablesOk room w x) e in
-    let b = and-both (sizedOk room w x) (precisionOk (real x 0)) (a .0) in
+    let a = and-both (sizedOk room w x && versionOk (word w 10) && precisionOk (real x 0)) (tablesOk room w x) e in
+    let b = and-both (sizedOk room w x && versionOk (word w 10)) (precisionOk (real x 0)) (a .0) in
+    let c = and-both (sizedOk room w x) (versionOk (word w 10)) (b .0) in
     record {
-      sized = sized-of room w x (b .0);
+      sized = sized-of room w x (c .0);
+      version = c .1;
       precision = b .1;
       rows = λ k i h g.
           allBelow-at (λ j. recordOk k (wordsOf room w k j) (realsOf room x k j)) (word w k) i (allBelow-at (tableOk room w x) 10 k (a .1) h) g;
@@ -212,6 +214,10 @@ words-inside room w k i f h g = record { enough = f .words; table = h; slot = lt
 -- the precision is there
 pub precision-there : (room w : List ℕ) (x : List Float) → Sized room w x → 1 ≤ length x
 precision-there room w x s = le-trans (before-tables 1 realStrides room 10) (s .reals)
+
+-- and so are the used counts and the version
+pub version-there : (room w : List ℕ) → wordsNeeded room ≤ length w → 11 ≤ length w
+version-there room w n = le-trans (before-tables 11 wordStrides room 10) n
 
 -- an edge's fins, by the list's number
 pub edge-fins : (room w : List ℕ) (x : List Float) (e : ℕ) → listOf room w 7 e ≡ edge (decode room w x) e .fins

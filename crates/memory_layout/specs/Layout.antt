@@ -1,5 +1,5 @@
 -- Where the records lie in the lent memory: words (u32) and floats, cut up by the capacities of the ten tables. Definitions only.
--- The words begin with the ten used counts, the floats with the precision. Then come the tables, by number: 0 bodies, 1 regions, 2 shells,
+-- The words begin with the ten used counts and the version, the floats with the precision. Then come the tables, by number: 0 bodies, 1 regions, 2 shells,
 -- 3 faces, 4 loops, 5 fins, 6 edges, 7 vertices, 8 curves, 9 surfaces, each with room for as many records as its capacity says.
 use Prim.Native.Nat.{ℕ, zero, suc, _+_, _*_}
 use mathlib.Core.List.{List, [], _∷_}
@@ -34,14 +34,14 @@ abbrev pub recordAt : ℕ → List ℕ → List ℕ → ℕ → ℕ → ℕ
 recordAt from strides room k i = base from strides room k + word strides k * i
 
 abbrev pub wordAt : List ℕ → ℕ → ℕ → ℕ
-wordAt room k i = recordAt 10 wordStrides room k i
+wordAt room k i = recordAt 11 wordStrides room k i
 
 abbrev pub realAt : List ℕ → ℕ → ℕ → ℕ
 realAt room k i = recordAt 1 realStrides room k i
 
 -- how many words and floats the tables need
 abbrev pub wordsNeeded : List ℕ → ℕ
-wordsNeeded room = base 10 wordStrides room 10
+wordsNeeded room = base 11 wordStrides room 10
 
 abbrev pub realsNeeded : List ℕ → ℕ
 realsNeeded room = base 1 realStrides room 10

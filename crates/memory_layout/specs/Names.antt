@@ -167,6 +167,10 @@ AT-VERTEX-TOLERANCE = 0
 abbrev pub AT-CARRIER-TAG : ℕ
 AT-CARRIER-TAG = 0
 
+-- where the version of the drawing practice stands among the words: behind the ten used counts (W-211)
+abbrev pub VERSION : ℕ
+VERSION = 10
+
 -- where the session precision stands among the floats
 abbrev pub PRECISION : ℕ
 PRECISION = 0

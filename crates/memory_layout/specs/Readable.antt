@@ -9,7 +9,7 @@ use lib.Ieee.{Float}
 use Rattle.geom_lines_planes.specs.declared.tolerance.Tolerance.the-variants.{Own}
 use Rattle.meaning.specs.Lists.{allBelow, every}
 use Rattle.meaning.specs.Edits.{toleranceOk, precisionOk}
-use Rattle.memory_layout.specs.Names.{AT-BODY-KIND, AT-BODY-REGIONS, AT-REGION-SOLID, AT-REGION-SHELLS, AT-SHELL-FACES, AT-SHELL-WIRES, AT-SHELL-ACORNS, AT-FACE-FRONT, AT-FACE-BACK, AT-FACE-SURFACE, AT-FACE-SENSE, AT-FACE-LOOPS, AT-LOOP-FINS, AT-FIN-SENSE, AT-FIN-PCURVE, AT-EDGE-START, AT-EDGE-END, AT-EDGE-CURVE, AT-EDGE-TOLERANCE, AT-EDGE-FINS, AT-VERTEX-TOLERANCE, AT-CARRIER-TAG, PRECISION, FLOAT-EDGE-TOLERANCE, FLOAT-VERTEX-TOLERANCE}
+use Rattle.memory_layout.specs.Names.{AT-BODY-KIND, AT-BODY-REGIONS, AT-REGION-SOLID, AT-REGION-SHELLS, AT-SHELL-FACES, AT-SHELL-WIRES, AT-SHELL-ACORNS, AT-FACE-FRONT, AT-FACE-BACK, AT-FACE-SURFACE, AT-FACE-SENSE, AT-FACE-LOOPS, AT-LOOP-FINS, AT-FIN-SENSE, AT-FIN-PCURVE, AT-EDGE-START, AT-EDGE-END, AT-EDGE-CURVE, AT-EDGE-TOLERANCE, AT-EDGE-FINS, AT-VERTEX-TOLERANCE, AT-CARRIER-TAG, VERSION, PRECISION, FLOAT-EDGE-TOLERANCE, FLOAT-VERTEX-TOLERANCE}
 use Rattle.memory_layout.specs.Layout.{largestTables, word, real, wordsNeeded, realsNeeded, wordsOf, realsOf}
 
 -- ---- a record's tags are known, and its lists within their limits: 01, "Lists: body 16 regions; region 16 shells; shell 512 faces, 256 wire edges,
@@ -45,6 +45,10 @@ vertexOk w x = leb (word w AT-VERTEX-TOLERANCE) 1 && ownOk (word w AT-VERTEX-TOL
 
 abbrev pub carrierOk : List ℕ → Bool
 carrierOk w = leb (word w AT-CARRIER-TAG) 2
+
+-- the version is 1 or 2 (W-211): else it is "an unknown tag"
+abbrev pub versionOk : ℕ → Bool
+versionOk n = eqb n 1 || eqb n 2
 
 -- by table
 abbrev pub recordTests : List (List ℕ → List Float → Bool)
@@ -90,4 +94,4 @@ unfoldable pub sizedOk : List ℕ → List ℕ → List Float → Bool
 sizedOk room w x = lentOk room w x && countsOk room w
 
 unfoldable pub readable : List ℕ → List ℕ → List Float → Bool
-readable room w x = sizedOk room w x && precisionOk (real x PRECISION) && tablesOk room w x
+readable room w x = sizedOk room w x && versionOk (word w VERSION) && precisionOk (real x PRECISION) && tablesOk room w x

@@ -63,14 +63,14 @@ table-rows room w x k s h =
     record {
       table = h;
       few = omega arith;
-      words = rows-fit w 10 wordStrides room k (word w k) h c (s .words) .1;
+      words = rows-fit w 11 wordStrides room k (word w k) h c (s .words) .1;
       reals = rows-fit x 1 realStrides room k (word w k) h c (s .reals) .1;
     }
 
 -- where that part begins
 pub table-begins : (room w : List ℕ) (x : List Float) (k : ℕ) → Sized room w x → k < 10 → (wordAt room k 0 ≤ length w) × (realAt room k 0 ≤ length x)
 table-begins room w x k s h =
-    (rows-fit w 10 wordStrides room k (word w k) h (s .counts k h) (s .words) .0, rows-fit x 1 realStrides room k (word w k) h (s .counts k h) (s .reals) .0)
+    (rows-fit w 11 wordStrides room k (word w k) h (s .counts k h) (s .words) .0, rows-fit x 1 realStrides room k (word w k) h (s .counts k h) (s .reals) .0)
 
 pub words-row : (room w : List ℕ) (k i : ℕ) → row (drop (wordAt room k 0) w) (word wordStrides k) i ≡ wordsOf room w k i
 unfolding row wordsOf

@@ -14,7 +14,7 @@ const REALS: [usize; 10] = [0, 0, 0, 0, 0, 0, 1, 4, 6, 6];
 fn base(from: usize, strides: &[usize; 10], room: &[usize; 10], k: usize) -> usize
     requires { ⌜ Small (now room) ⌝ }
     requires { ⌜ Strides (now strides) ⌝ }
-    requires { ⌜ (from ≤ 10) × (k ≤ 10) ⌝ }
+    requires { ⌜ (from ≤ 11) × (k ≤ 10) ⌝ }
     ensures { λ r. ⌜ r ≡ base from (now (strides .entry)) (now (room .entry)) k ⌝ }
 {
     let mut at = from;
@@ -30,7 +30,7 @@ fn base(from: usize, strides: &[usize; 10], room: &[usize; 10], k: usize) -> usi
 fn record_at(from: usize, strides: &[usize; 10], room: &[usize; 10], k: usize, i: usize) -> usize
     requires { ⌜ Small (now room) ⌝ }
     requires { ⌜ Strides (now strides) ⌝ }
-    requires { ⌜ (from ≤ 10) × (k < 10) × (i ≤ 4096) ⌝ }
+    requires { ⌜ (from ≤ 11) × (k < 10) × (i ≤ 4096) ⌝ }
     ensures { λ r. ⌜ r ≡ recordAt from (now (strides .entry)) (now (room .entry)) k i ⌝ }
 {
     base(from, strides, room, k) + strides[k] * i
@@ -42,7 +42,7 @@ pub fn word_at(room: &[usize; 10], k: usize, i: usize) -> usize
     ensures { λ r. ⌜ r ≡ wordAt (now (room .entry)) k i ⌝ }
 {
     let strides = WORDS;
-    record_at(10, &strides, room, k, i)
+    record_at(11, &strides, room, k, i)
 }
 
 pub fn real_at(room: &[usize; 10], k: usize, i: usize) -> usize
@@ -59,7 +59,7 @@ pub fn words_needed(room: &[usize; 10]) -> usize
     ensures { λ r. ⌜ r ≡ wordsNeeded (now (room .entry)) ⌝ }
 {
     let strides = WORDS;
-    base(10, &strides, room, 10)
+    base(11, &strides, room, 10)
 }
 
 pub fn reals_needed(room: &[usize; 10]) -> usize

@@ -113,6 +113,9 @@ pub const AT_VERTEX_TOLERANCE: usize = 0;
 // Where a field stands among the words of a carrier.
 pub const AT_CARRIER_TAG: usize = 0;
 
+// Where the version of the drawing practice stands among the words.
+pub const VERSION: usize = 10;
+
 // Where the session precision stands among the floats.
 pub const PRECISION: usize = 0;
 

@@ -7,7 +7,9 @@ use memory_layout::layout::word_at;
 use memory_layout::layout::word_stride;
 use memory_layout::layout::words_needed;
 use memory_layout::names::PRECISION;
+use memory_layout::names::VERSION;
 use memory_record_test::allowed::precision_ok;
+use memory_record_test::allowed::version_ok;
 use memory_record_test::record_ok;
 ghost use mathlib.Core.Path.{_≡_};
 ghost use Prim.Native.Nat.{_+_, _*_, _<_, _≤_};
@@ -137,5 +139,5 @@ pub fn readable(room: &[usize; 10], words: &[u32], reals: &[f64]) -> bool
     if !sized(room, words, reals) {
         return false;
     }
-    precision_ok(reals[PRECISION]) & tables_ok(room, words, reals)
+    version_ok(words[VERSION]) & precision_ok(reals[PRECISION]) & tables_ok(room, words, reals)
 }

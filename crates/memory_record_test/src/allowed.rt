@@ -1,4 +1,4 @@
-// Whether a tolerance, a precision, and a body, region or shell by its own words, is one that refusal 9 lets through. `specs/Readable.antt` of
+// Whether a tolerance, a precision, a version, and a body, region or shell by its own words, is one that refusal 9 lets through. `specs/Readable.antt` of
 // `memory_layout` has the tests.
 use float_vectors::vector::is_finite;
 use memory_layout::names::AT_BODY_KIND;
@@ -12,7 +12,7 @@ ghost use mathlib.Core.Path.{_≡_};
 ghost use lib.ListN.{length};
 ghost use Rattle.meaning.specs.Edits.{toleranceOk, precisionOk};
 ghost use Rattle.geom_lines_planes.specs.declared.tolerance.Tolerance.the-variants.{Own};
-ghost use Rattle.memory_layout.specs.Readable.{bodyOk, regionOk, shellOk, ownOk};
+ghost use Rattle.memory_layout.specs.Readable.{versionOk, bodyOk, regionOk, shellOk, ownOk};
 
 pub fn tolerance_ok(t: f64) -> bool
     ensures { λ r. ⌜ r ≡ toleranceOk (Own t) ⌝ }
@@ -24,6 +24,12 @@ pub fn precision_ok(p: f64) -> bool
     ensures { λ r. ⌜ r ≡ precisionOk p ⌝ }
 {
     is_finite(p) & (0.0 < p)
+}
+
+pub fn version_ok(v: u32) -> bool
+    ensures { λ r. ⌜ r ≡ versionOk v ⌝ }
+{
+    (v == 1) | (v == 2)
 }
 
 pub fn own_ok(tag: u32, t: f64) -> bool

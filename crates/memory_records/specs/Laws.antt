@@ -3,7 +3,7 @@ use Prim.Native.Nat.{ℕ, zero, suc, _<_, _≤_}
 use mathlib.Core.Path.{_≡_, refl, sym, ap, _∙_, subst}
 use mathlib.Core.Logic.{inl, inr}
 use mathlib.Core.List.{List}
-use native.Mathlib.Nat.{eq-or-lt-of-le, le-trans}
+use native.Mathlib.Nat.{eq-or-lt-of-le}
 use native.Mathlib.Omega.{arith}
 use lib.Ieee.{Float}
 use lib.ListN.{length}
@@ -12,7 +12,7 @@ use Rattle.memory_layout.specs.Layout.{wordStrides, realStrides, word, wordsNee
 use Rattle.memory_layout.specs.Decode.{kindOf}
 use Rattle.memory_layout.specs.Entries.{listTables, listPlaces}
 use Rattle.memory_layout.specs.Fit.{Inside, Sized, Held, Lists}
-use Rattle.memory_layout.specs.Laws.{words-length, reals-length, before-tables, list-held}
+use Rattle.memory_layout.specs.Laws.{words-length, reals-length, version-there, list-held}
 
 -- ---- a record, read off its words
 
@@ -41,9 +41,9 @@ words-whole room w l k i e h = ap length e ∙ words-length room w k i h
 pub reals-whole : (room : List ℕ) (x l : List Float) (k i : ℕ) → l ≡ realsOf room x k i → Inside (realsNeeded room) (length x) room k i → length l ≡ word realStrides k
 reals-whole room x l k i e h = ap length e ∙ reals-length room x k i h
 
--- the used counts, and the precision, are there
-pub counts-there : (room w : List ℕ) (x : List Float) → Sized room w x → 10 ≤ length w
-counts-there room w x s = le-trans (before-tables 10 wordStrides room 10) (s .words)
+-- the used counts and the version are there
+pub counts-there : (room w : List ℕ) (x : List Float) → Sized room w x → 11 ≤ length w
+counts-there room w x s = version-there room w (s .words)
 
 -- a carrier's words and floats
 pub carrier-strides : (k : ℕ) → 7 < k → k < 10 → (word wordStrides k ≡ 1) × (word realStrides k ≡ 6)

@@ -6,12 +6,18 @@ use geom_carriers::Carrier;
 use geom_lines_planes::curve::Line;
 use geom_lines_planes::surface::Plane;
 use geom_lines_planes::tolerance::Tolerance;
+use geom_lines_planes::tolerance::Version;
+use geom_lines_planes::tolerance::effective_tolerance;
 use memory_layout::names::AT_CARRIER_TAG;
+use memory_layout::names::PRECISION;
+use memory_layout::names::VERSION;
 ghost use mathlib.Core.Path.{_≡_};
 ghost use Prim.Native.Nat.{_+_, _≤_, _<_};
 ghost use lib.ListN.{length};
-ghost use Rattle.memory_layout.specs.Names.{FLOAT-CARRIER-ORIGIN, FLOAT-CARRIER-DIRECTION};
-ghost use Rattle.memory_layout.specs.Decode.{maybeAt, senseOf, kindOf, toleranceOf, pointAt, vecAt, carrierOf};
+ghost use Rattle.geom_lines_planes.specs.Geometry.{effective};
+ghost use Rattle.memory_layout.specs.Layout.{word, real};
+ghost use Rattle.memory_layout.specs.Names.{VERSION, PRECISION, FLOAT-CARRIER-ORIGIN, FLOAT-CARRIER-DIRECTION};
+ghost use Rattle.memory_layout.specs.Decode.{maybeAt, senseOf, kindOf, versionOf, toleranceOf, pointAt, vecAt, carrierOf};
 ghost use Rattle.memory_records.specs.Seen.{seenRef, seenSense, seenKind};
 
 // What a body is allowed to contain.
@@ -125,6 +131,23 @@ pub fn tolerance_of(tag: u32, own: f64) -> Tolerance
         return Tolerance::Session;
     }
     Tolerance::Own(own)
+}
+
+pub fn version_of(n: u32) -> Version
+    ensures { λ r. ⌜ r ≡ versionOf n ⌝ }
+{
+    if n == 2 {
+        return Version::Second;
+    }
+    Version::First
+}
+
+// The tolerance in effect, of the model's version and precision.
+pub fn in_effect(words: &[u32], reals: &[f64], local: Tolerance) -> f64
+    requires { ⌜ (11 ≤ length (now words)) × (1 ≤ length (now reals)) ⌝ }
+    ensures { λ r. ⌜ r ≡ effective (versionOf (word (now (words .entry)) VERSION)) local (real (now (reals .entry)) PRECISION) ⌝ }
+{
+    effective_tolerance(version_of(words[VERSION]), local, reals[PRECISION])
 }
 
 // The first three floats of a carrier, its origin, or of a vertex, its point.

@@ -17,6 +17,7 @@ pub record SameTable {A : Type 0} (t u : Table A) : Type 0 where
   pub slots : (i : ℕ) → i < t .used → t .slot i ≡ u .slot i
 
 pub record SameModel (m n : Model) : Type 0 where
+  pub version : m .version ≡ n .version
   pub precision : m .precision ≡ n .precision
   pub bodies : SameTable (m .bodies) (n .bodies)
   pub regions : SameTable (m .regions) (n .regions)
@@ -33,6 +34,7 @@ pub record SameModel (m n : Model) : Type 0 where
 abbrev each : ((A : Type 0) → ℕ → Table A → A → Table A) → List ℕ → List Float → Model → Model
 each f r s m =
     record {
+      version = m .version;
       precision = m .precision;
       bodies = f Body BODIES (m .bodies) (bodyOf r);
       regions = f Region REGIONS (m .regions) (regionOf r);

@@ -1,4 +1,4 @@
--- One law for every insert and edit: a write into one record leaves all others, the used counts and the precision as they were. Assumes nothing.
+-- One law for every insert and edit: a write into one record leaves all others, the used counts, the version and the precision as they were. Assumes nothing.
 use Prim.Native.Nat.{ℕ, suc, _+_, _*_, _≤_, _<_}
 use native.Mathlib.Nat.{le-trans, mul-suc, mul-le-mul-left}
 use native.Mathlib.Omega.{arith}
@@ -91,6 +91,7 @@ module _ (from : ℕ) (strides room : List ℕ) where
 pub record Elsewhere (room w w′ : List ℕ) (x x′ : List Float) (k i : ℕ) : Type 0 where
   pub words-long : length w′ ≡ length w
   pub reals-long : length x′ ≡ length x
+  pub version : word w′ 10 ≡ word w 10
   pub precision : real x′ 0 ≡ real x 0
   pub words : (m j : ℕ) → j < word room m → (k ≡ m → i ≡ j → ⊥) → wordsOf room w′ m j ≡ wordsOf room w m j
   pub reals : (m j : ℕ) → j < word room m → (k ≡ m → i ≡ j → ⊥) → realsOf room x′ m j ≡ realsOf room x m j
@@ -101,16 +102,17 @@ module _ (room w r : List ℕ) (x s : List Float) (k i : ℕ) (a : Inside (words
   unfolding putWords putReals wordsOf realsOf
   elsewhere =
       record {
-        words-long = length-put 10 wordStrides room w r k i a words-whole;
+        words-long = length-put 11 wordStrides room w r k i a words-whole;
         reals-long = length-put 1 realStrides room x s k i b reals-whole;
+        version = put-before 11 wordStrides room w r k i a words-whole 10 0 (omega arith);
         precision = put-before 1 realStrides room x s k i b reals-whole 0 nan (omega arith);
-        words = put-elsewhere 10 wordStrides room w r k i a words-whole;
+        words = put-elsewhere 11 wordStrides room w r k i a words-whole;
         reals = put-elsewhere 1 realStrides room x s k i b reals-whole;
       }
 
   pub words-there : wordsOf room (putWords room k i r w) k i ≡ r
   unfolding putWords wordsOf
-  words-there = put-there 10 wordStrides room w r k i a words-whole
+  words-there = put-there 11 wordStrides room w r k i a words-whole
 
   pub reals-there : realsOf room (putReals room k i s x) k i ≡ s
   unfolding putReals realsOf
@@ -118,7 +120,7 @@ module _ (room w r : List ℕ) (x s : List Float) (k i : ℕ) (a : Inside (words
 
   pub counts-kept : (q : ℕ) → q < 10 → word (putWords room k i r w) q ≡ word w q
   unfolding putWords
-  counts-kept q h = put-before 10 wordStrides room w r k i a words-whole q 0 h
+  counts-kept q h = put-before 11 wordStrides room w r k i a words-whole q 0 (omega arith)
 
 -- a new record's words are a whole record's
 pub new-length : (k : ℕ) (f : List ℕ) → length f ≤ word wordStrides k → length (newWords k f) ≡ word wordStrides k
@@ -133,7 +135,7 @@ new-length k f h =
 pub counted-words : (room w : List ℕ) (k m j : ℕ) → k < 10 → wordsOf room (counted k w) m j ≡ wordsOf room w m j
 unfolding counted wordsOf
 counted-words room w k m j h =
-    let b = before-tables 10 wordStrides room m in
+    let b = before-tables 11 wordStrides room m in
     ap (take (word wordStrides m)) (drop-set-lt (wordAt room m j) w k (word w k + 1) (omega arith))
 
 pub counted-long : (w : List ℕ) (k : ℕ) → length (counted k w) ≡ length w

@@ -13,8 +13,8 @@ use Rattle.meaning.specs.Model.{extended, changed}
 use Rattle.meaning.specs.Edits.{precisionOk, inserted, edited}
 use Rattle.meaning_list_laws.specs.Tests.{every-cons, every-none, allBelow-all}
 use Rattle.memory_layout.specs.Layout.{wordStrides, realStrides, largestTables, word, wordsNeeded, realsNeeded, wordsOf, realsOf}
-use Rattle.memory_layout.specs.Readable.{recordOk, roomOk, countsOk, tableOk, tablesOk, lentOk, sizedOk, readable}
-use Rattle.memory_layout.specs.Decode.{table, bodyOf, regionOf, shellOf, faceOf, loopOf, finOf, edgeOf, vertexOf, carrierOf, decode}
+use Rattle.memory_layout.specs.Readable.{versionOk, recordOk, roomOk, countsOk, tableOk, tablesOk, lentOk, sizedOk, readable}
+use Rattle.memory_layout.specs.Decode.{versionOf, table, bodyOf, regionOf, shellOf, faceOf, loopOf, finOf, edgeOf, vertexOf, carrierOf, decode}
 use Rattle.memory_layout.specs.Fit.{Inside, Fit}
 use Rattle.memory_layout.specs.Laws.{before-tables}
 use Rattle.memory_writes.specs.Put.{putWords, putReals, counted, unlessRefused}
@@ -42,7 +42,7 @@ readable-of room w x f =
     let b : countsOk room w ≡ true = allBelow-all (λ k. leb (word w k) (word room k)) 10 (λ k h. le-leb _ _ (s .counts k h)) in
     let c : tablesOk room w x ≡ true =
     allBelow-all (tableOk room w x) 10 (λ k h. allBelow-all (λ i. recordOk k (wordsOf room w k i) (realsOf room x k i)) (word w k) (λ i g. f .rows k i h g)) in
-    both _ _ (both _ _ (both _ _ a b) (f .precision)) c
+    both _ _ (both _ _ (both _ _ (both _ _ a b) (f .version)) (f .precision)) c
 
 -- ---- the words r and the floats s are put where record i of table k has room
 
@@ -104,6 +104,7 @@ module _ (room w r : List ℕ) (x s : List Float) (k i : ℕ) (f : Fit room w x)
     unfolding decode
     model-put =
         record {
+          version = ap versionOf (else .version);
           precision = else .precision;
           bodies = table-put (λ l _. bodyOf l) 0 (omega arith);
           regions = table-put (λ l _. regionOf l) 1 (omega arith);
@@ -130,6 +131,7 @@ module _ (room w r : List ℕ) (x s : List Float) (k i : ℕ) (f : Fit room w x)
             reals = omega (arith, sized .reals);
             counts = λ q h. let e = counts q h in let c = sized .counts q h in omega arith;
           };
+          version = ap versionOk (else .version) ∙ f .version;
           precision = ap precisionOk (else .precision) ∙ f .precision;
           rows = λ q j h g. row q j h (let e = counts q h in omega arith);
         }
@@ -160,7 +162,7 @@ module _ (room w r : List ℕ) (x s : List Float) (k : ℕ) (f : Fit room w x) (
   used-new =
       let c = counts room w r x s k (word w k) f table-there slot words-whole reals-whole k table-there in
       let l = put-long in
-      let b = before-tables 10 wordStrides room 10 in
+      let b = before-tables 11 wordStrides room 10 in
       let e = f .sized .words in
       counted-there (putWords room k (word w k) r w) k (omega arith) ∙ ap (λ (n : ℕ). n + 1) c
 
@@ -168,6 +170,11 @@ module _ (room w r : List ℕ) (x s : List Float) (k : ℕ) (f : Fit room w x) (
   used-else q h e =
       counted-else (putWords room k (word w k) r w) k q e
       ∙ counts room w r x s k (word w k) f table-there slot words-whole reals-whole q h
+
+  version-new : word w″ 10 ≡ word w 10
+  version-new =
+      counted-else (putWords room k (word w k) r w) k 10 (λ e. omega arith)
+      ∙ else room w r x s k (word w k) f table-there slot words-whole reals-whole .version
 
   new-else : {A : Type 0} (of : List ℕ → List Float → A) (q j : ℕ) → q < 10 → j < word w q → of (wordsOf room w″ q j) (realsOf room x″ q j) ≡ of (wordsOf room w q j) (realsOf room x q j)
   new-else of q j h g =
@@ -211,6 +218,7 @@ module _ (room w r : List ℕ) (x s : List Float) (k : ℕ) (f : Fit room w x) (
   unfolding decode
   model-new =
       record {
+        version = ap versionOf version-new;
         precision = else room w r x s k (word w k) f table-there slot words-whole reals-whole .precision;
         bodies = table-new (λ l _. bodyOf l) 0 (omega arith);
         regions = table-new (λ l _. regionOf l) 1 (omega arith);
@@ -238,6 +246,7 @@ module _ (room w r : List ℕ) (x s : List Float) (k : ℕ) (f : Fit room w x) (
           reals = omega (arith, sized .reals);
           counts = λ q h. count (eqb q k) q h (eqb-true q k) (eqb-false q k);
         };
+        version = ap versionOk version-new ∙ f .version;
         precision = ap precisionOk (else room w r x s k (word w k) f table-there slot words-whole reals-whole .precision) ∙ f .precision;
         rows = λ q j h g. row (eqb q k) (ltb j (word w q)) q j h g (eqb-true q k) (eqb-false q k) (ltb-true j (word w q)) (ltb-false j (word w q));
       }

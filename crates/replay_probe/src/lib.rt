@@ -8,6 +8,8 @@ use geom_carriers::Found;
 use geom_lines_planes::curve::Line;
 use geom_lines_planes::surface::Plane;
 use geom_lines_planes::tolerance::Tolerance;
+use geom_lines_planes::tolerance::Version;
+use geom_lines_planes::tolerance::effective_tolerance;
 use geom_queries::Evaluated;
 use geom_queries::Measured;
 use geom_queries::Projected;
@@ -223,11 +225,15 @@ fn intervals_op(op: u32, x: &[f64; 12], out: &mut [f64; 6]) -> u32 {
     }
 }
 
-fn tolerance(own: f64, value: f64, precision: f64) -> f64 {
+fn local(own: f64, value: f64) -> Tolerance {
     if own != 0.0 {
-        return geom_lines_planes::tolerance::effective_tolerance(Tolerance::Own(value), precision);
+        return Tolerance::Own(value);
     }
-    geom_lines_planes::tolerance::effective_tolerance(Tolerance::Session, precision)
+    Tolerance::Session
+}
+
+fn tolerance(version: Version, x: &[f64; 12]) -> f64 {
+    effective_tolerance(version, local(x[0], x[1]), x[2])
 }
 
 fn geometry_op(op: u32, x: &[f64; 12], out: &mut [f64; 6]) -> u32 {
@@ -235,7 +241,8 @@ fn geometry_op(op: u32, x: &[f64; 12], out: &mut [f64; 6]) -> u32 {
         22 => put_point(out, line(x).eval(x[6])),
         23 => put(out, line(x).closest_param(third_point(x))),
         24 => put(out, plane(x).distance(third_point(x))),
-        _ => put(out, tolerance(x[0], x[1], x[2])),
+        25 => put(out, tolerance(Version::First, x)),
+        _ => put(out, tolerance(Version::Second, x)),
     }
 }
 
@@ -298,7 +305,7 @@ pub extern "C" fn brunskerl_probe(op: u32, x: &[f64; 12], out: &mut [f64; 6]) ->
         8..=10 => interval_test(op, first_interval(x), x[2]),
         11..=18 => vector_op(op, x, out),
         19..=21 => intervals_op(op, x, out),
-        22..=25 => geometry_op(op, x, out),
+        22..=25 | 34 => geometry_op(op, x, out),
         26..=28 => query(op, x, out),
         29..=33 => sign(sign_test(op, x)),
         _ => 4294967295,

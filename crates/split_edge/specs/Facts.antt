@@ -14,7 +14,7 @@ use Rattle.split_bounds.specs.Ends.{endsRefusal}
 pub record Open (room w : List ℕ) (x : List Float) (e : ℕ) : Type 0 where
   pub fit : Fit room w x
   pub ends : endsRefusal (decode room w x) e ≡ 0
-  pub counts : 10 ≤ length w
+  pub counts : 11 ≤ length w
   pub there : e < word w EDGES
   pub edges : word w EDGES < word room EDGES
   pub vertices : word w VERTICES < word room VERTICES

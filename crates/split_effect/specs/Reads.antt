@@ -97,16 +97,19 @@ module _ (room w : List ℕ) (x : List Float) (e : ℕ) (t : Float) (a : Accepte
       let c = room-kept .counts in
       length-over 5 ((word v 5 + n) ∷ (word v 6 + 1) ∷ (word v 7 + 1) ∷ []) v (omega arith) ∙ l
 
-  -- the used counts
-  pub used-else : (q : ℕ) → q < 10 → (q < 5) ⊎ (7 < q) → word w′ q ≡ word w q
+  -- the used counts, and the version
+  pub head-else : (q : ℕ) → q < 11 → (q < 5) ⊎ (7 < q) → word w′ q ≡ word w q
   unfolding wordsSplit splitPut countsPut
-  used-else q h o =
+  head-else q h o =
       let l = stage .long in
       let c = room-kept .counts in
       elim o [
         | inl b ↦ entry-before 5 q ((word v 5 + n) ∷ (word v 6 + 1) ∷ (word v 7 + 1) ∷ []) v 0 b (omega arith) ∙ stage .counts q h
         | inr b ↦ entry-behind 5 q ((word v 5 + n) ∷ (word v 6 + 1) ∷ (word v 7 + 1) ∷ []) v 0 (omega arith) (omega arith) ∙ stage .counts q h
       ]
+
+  pub used-else : (q : ℕ) → q < 10 → (q < 5) ⊎ (7 < q) → word w′ q ≡ word w q
+  used-else q h o = head-else q (omega arith) o
 
   pub used-fins : word w′ 5 ≡ word w 5 + n
   unfolding wordsSplit splitPut countsPut
@@ -135,7 +138,7 @@ module _ (room w : List ℕ) (x : List Float) (e : ℕ) (t : Float) (a : Accepte
   reads m j h =
       let l = stage .long in
       let c = room-kept .counts in
-      let b = before-tables 10 wordStrides room m in
+      let b = before-tables 11 wordStrides room m in
       part-behind 5 (wordAt room m j) (word wordStrides m) ((word v 5 + n) ∷ (word v 6 + 1) ∷ (word v 7 + 1) ∷ []) v (omega arith) (omega arith)
       ∙ stage .reads m j h
 

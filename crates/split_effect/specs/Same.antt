@@ -14,7 +14,7 @@ use Rattle.meaning.specs.Lists.{run, joined}
 use Rattle.meaning.specs.Model.{Model, Edge, extended, changed, edge}
 use Rattle.meaning.specs.Split.{withNew, splitShell, splitLoop, firstHalf, secondHalf, finCopy, afterSplit, splitPoint}
 use Rattle.memory_layout.specs.Layout.{word, wordsOf, realsOf}
-use Rattle.memory_layout.specs.Decode.{table, bodyOf, regionOf, shellOf, faceOf, loopOf, finOf, edgeOf, vertexOf, carrierOf, decode}
+use Rattle.memory_layout.specs.Decode.{versionOf, table, bodyOf, regionOf, shellOf, faceOf, loopOf, finOf, edgeOf, vertexOf, carrierOf, decode}
 use Rattle.memory_layout.specs.Entries.{listOf}
 use Rattle.memory_layout.specs.Laws.{lists-of}
 use Rattle.memory_writes.specs.Change.{SameTable, SameModel}
@@ -24,7 +24,7 @@ use Rattle.split_pieces.specs.Pieces.{finWord, finWords, newFinWords}
 use Rattle.split_pieces.specs.Laws.{edge-long}
 use Rattle.split_edge.specs.Named.{nth-map, entries-fin, entries-wire}
 use Rattle.split_edge.specs.Rooms.{Accepted, loop-fits, shell-fits}
-use Rattle.split_effect.specs.Reads.{fins, n, fins-long, w′, x′, room-kept, used-else, used-fins, used-edges, used-vertices, reads, in-use, shell-words, loop-words, old-fin, new-fin, first-half, second-half, there, old-edge, first-edge, second-edge, old-vertex, new-vertex, tolerance, point, precision-same, floats-same, edge-floats, vertex-floats, record-long}
+use Rattle.split_effect.specs.Reads.{fins, n, fins-long, w′, x′, room-kept, head-else, used-else, used-fins, used-edges, used-vertices, reads, in-use, shell-words, loop-words, old-fin, new-fin, first-half, second-half, there, old-edge, first-edge, second-edge, old-vertex, new-vertex, tolerance, point, precision-same, floats-same, edge-floats, vertex-floats, record-long}
 use Rattle.split_effect.specs.Fields.{joined-ext, first-behind, first-means, second-means}
 
 module _ (room w : List ℕ) (x : List Float) (e : ℕ) (t : Float) (a : Accepted room w x e t) where
@@ -194,6 +194,7 @@ module _ (room w : List ℕ) (x : List Float) (e : ℕ) (t : Float) (a : Accepte
       let kept : (k : ℕ) → k < 10 → (k < 6) ⊎ (7 < k) → (j : ℕ) → j < word room k → realsOf room xa k j ≡ realsOf room x k j
       = λ k h o j g. floats-same room w x e t a k j g (λ d _. apart k o (inl d)) (λ d _. apart k o (inr d)) in
       record {
+        version = ap versionOf (head-else room w x e t a 10 (omega arith) (inr (omega arith)));
         precision = precision-same room w x e t a;
         bodies = table-same (λ l _. bodyOf l) 0 (omega arith) (used-else room w x e t a 0 (omega arith) (inl (omega arith))) (reads room w x e t a 0) (kept 0 (omega arith) (inl (omega arith)));
         regions = table-same (λ l _. regionOf l) 1 (omega arith) (used-else room w x e t a 1 (omega arith) (inl (omega arith))) (reads room w x e t a 1) (kept 1 (omega arith) (inl (omega arith)));

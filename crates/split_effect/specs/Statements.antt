@@ -38,6 +38,7 @@ same-table t = record { used = refl; slots = λ i h. refl }
 pub same-model : (m : Model) → SameModel m m
 same-model m =
     record {
+      version = refl;
       precision = refl;
       bodies = same-table (m .bodies);
       regions = same-table (m .regions);

@@ -13,7 +13,7 @@ use Rattle.meaning.specs.Lists.{joined}
 use Rattle.meaning.specs.Edits.{precisionOk}
 use Rattle.meaning_list_laws.specs.Tests.{and-both}
 use Rattle.memory_layout.specs.Layout.{word, real, wordsOf, realsOf}
-use Rattle.memory_layout.specs.Readable.{ownOk, edgeOk, recordOk}
+use Rattle.memory_layout.specs.Readable.{versionOk, ownOk, edgeOk, recordOk}
 use Rattle.memory_layout.specs.Entries.{listOf}
 use Rattle.memory_layout.specs.Fit.{Fit}
 use Rattle.edit_lists.specs.Records.{still-ok}
@@ -22,7 +22,7 @@ use Rattle.split_pieces.specs.Pieces.{finWord, finWords, newFinWords}
 use Rattle.split_pieces.specs.Laws.{edge-long}
 use Rattle.split_edge.specs.Named.{nth-map}
 use Rattle.split_edge.specs.Rooms.{Accepted, loop-fits, shell-fits}
-use Rattle.split_effect.specs.Reads.{n, fins-long, w′, x′, room-kept, words-long, used-else, used-fins, used-edges, used-vertices, reads, in-use, shell-words, loop-words, old-fin, new-fin, first-half, second-half, there, old-edge, first-edge, second-edge, old-vertex, new-vertex, tolerance, reals-long, precision-same, floats-same, edge-floats, vertex-floats, record-long}
+use Rattle.split_effect.specs.Reads.{n, fins-long, w′, x′, room-kept, words-long, head-else, used-else, used-fins, used-edges, used-vertices, reads, in-use, shell-words, loop-words, old-fin, new-fin, first-half, second-half, there, old-edge, first-edge, second-edge, old-vertex, new-vertex, tolerance, reals-long, precision-same, floats-same, edge-floats, vertex-floats, record-long}
 use Rattle.split_effect.specs.Fields.{first-behind, first-ok, second-ok}
 
 module _ (room w : List ℕ) (x : List Float) (e : ℕ) (t : Float) (a : Accepted room w x e t) where
@@ -189,6 +189,7 @@ module _ (room w : List ℕ) (x : List Float) (e : ℕ) (t : Float) (a : Accepte
           reals = omega (arith, s .reals);
           counts = counts;
         };
+        version = ap versionOk (head-else room w x e t a 10 (omega arith) (inr (omega arith))) ∙ a .fit .version;
         precision = ap precisionOk (precision-same room w x e t a) ∙ a .fit .precision;
         rows = rows;
       }

@@ -22,7 +22,7 @@ cutAt m e t =
       lo = linePoint (carrier m e) (lo m e);
       hi = linePoint (carrier m e) (hi m e);
       at = splitPoint m e t;
-      tolerance = effective (edge m e .tolerance) (m .precision);
+      tolerance = effective (m .version) (edge m e .tolerance) (m .precision);
     }
 
 -- each entry, in list order, that is not among those before it: "repeated 1", then its own test

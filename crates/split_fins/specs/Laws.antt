@@ -25,8 +25,8 @@ use Rattle.split_fins.specs.Fins.{pcurveTest}
 -- ---- tests
 
 -- the used counts are there
-pub counts-listed : (room w : List ℕ) → Lists room w → 10 ≤ length w
-counts-listed room w f = le-trans (before-tables 10 wordStrides room 10) (f .words)
+pub counts-listed : (room w : List ℕ) → Lists room w → 11 ≤ length w
+counts-listed room w f = le-trans (before-tables 11 wordStrides room 10) (f .words)
 
 pub unless-is : (n : ℕ) (b : Bool) → n unless b ≡ n if not b
 unless-is n true = refl

@@ -26,7 +26,7 @@ module _ (room : List ℕ) (k from : ℕ) (r : ℕ → List ℕ) (w : List ℕ) 
   all-long zero s h = refl
   all-long (suc n) s h =
       let l = all-long n (omega arith) (λ j g. h j (omega arith)) in
-      length-put 10 wordStrides room (putAll room k from r n w) (r n) k (from + n) (record { enough = omega arith; table = table; slot = omega arith }) (h n (omega arith)) ∙ l
+      length-put 11 wordStrides room (putAll room k from r n w) (r n) k (from + n) (record { enough = omega arith; table = table; slot = omega arith }) (h n (omega arith)) ∙ l
 
   module _ (n : ℕ) (s : from + suc n ≤ word room k) (h : (j : ℕ) → j < suc n → length (r j) ≡ word wordStrides k) where
     fits : Inside (wordsNeeded room) (length (putAll room k from r n w)) room k (from + n)
@@ -37,15 +37,15 @@ module _ (room : List ℕ) (k from : ℕ) (r : ℕ → List ℕ) (w : List ℕ) 
   unfolding putAll putWords wordsOf
   all-else zero s h m j g e = refl
   all-else (suc n) s h m j g e =
-      put-elsewhere 10 wordStrides room (putAll room k from r n w) (r n) k (from + n) (fits n s h) (h n (omega arith)) m j g (λ d f. e d n (omega arith) f)
+      put-elsewhere 11 wordStrides room (putAll room k from r n w) (r n) k (from + n) (fits n s h) (h n (omega arith)) m j g (λ d f. e d n (omega arith) f)
       ∙ all-else n (omega arith) (λ i l. h i (omega arith)) m j g (λ d i l f. e d i (omega arith) f)
 
-  pub all-counts : (n : ℕ) → from + n ≤ word room k → ((j : ℕ) → j < n → length (r j) ≡ word wordStrides k) → (q : ℕ) → q < 10
+  pub all-counts : (n : ℕ) → from + n ≤ word room k → ((j : ℕ) → j < n → length (r j) ≡ word wordStrides k) → (q : ℕ) → q < 11
       → word (putAll room k from r n w) q ≡ word w q
   unfolding putAll putWords
   all-counts zero s h q g = refl
   all-counts (suc n) s h q g =
-      put-before 10 wordStrides room (putAll room k from r n w) (r n) k (from + n) (fits n s h) (h n (omega arith)) q 0 g
+      put-before 11 wordStrides room (putAll room k from r n w) (r n) k (from + n) (fits n s h) (h n (omega arith)) q 0 g
       ∙ all-counts n (omega arith) (λ i l. h i (omega arith)) q g
 
 pub pass-turn : (room : List ℕ) (k : ℕ) (r : ℕ → List ℕ) (w : List ℕ) (i : ℕ) → putWords room k i (r i) (putAll room k 0 r i w) ≡ putAll room k 0 r (i + 1) w

@@ -10,7 +10,7 @@ use Rattle.memory_layout.specs.Fit.{Small}
 pub record Slots (room w : List ℕ) (n : ℕ) : Type 0 where
   pub small : Small room
   pub enough : wordsNeeded room ≤ length w
-  pub counts : 10 ≤ length w
+  pub counts : 11 ≤ length w
   pub few : n ≤ 8
   pub fins : word w FINS + n ≤ word room FINS
   pub edges : word w EDGES < word room EDGES

@@ -23,10 +23,10 @@ use Rattle.split_pieces.specs.Pieces.{newFinWords, secondFields, loopsPu
 use Rattle.split_pieces.specs.Facts.{Slots}
 use Rattle.split_pieces.specs.Laws.{second-long, edge-inside, edge-long, vertex-inside, new-fin-long}
 
--- the words w are as long as w₀ and have its used counts, and record j of table m reads as `now m j`
+-- the words w are as long as w₀ and have its used counts and its version, and record j of table m reads as `now m j`
 pub record Stage (room w₀ w : List ℕ) (now : ℕ → ℕ → List ℕ) : Type 0 where
   pub long : length w ≡ length w₀
-  pub counts : (q : ℕ) → q < 10 → word w q ≡ word w₀ q
+  pub counts : (q : ℕ) → q < 11 → word w q ≡ word w₀ q
   pub reads : (m j : ℕ) → j < word room m → wordsOf room w m j ≡ now m j
 
 -- the records `here` of table k are those of r, all others as before
@@ -39,7 +39,7 @@ stage-none room w = record { long = refl; counts = λ q h. refl; reads = λ m j 
 
 module _ (room w₀ w : List ℕ) (old : ℕ → ℕ → List ℕ) (s : Stage room w₀ w old) where
   -- what a step must show
-  stage-of : (w′ : List ℕ) (k : ℕ) (here : ℕ → Bool) (r : ℕ → List ℕ) → length w′ ≡ length w → ((q : ℕ) → q < 10 → word w′ q ≡ word w q)
+  stage-of : (w′ : List ℕ) (k : ℕ) (here : ℕ → Bool) (r : ℕ → List ℕ) → length w′ ≡ length w → ((q : ℕ) → q < 11 → word w′ q ≡ word w q)
       → ((j : ℕ) → j < word room k → here j ≡ true → wordsOf room w′ k j ≡ r j)
       → ((m j : ℕ) → j < word room m → (k ≡ m → here j ≡ true → ⊥) → wordsOf room w′ m j ≡ wordsOf room w m j)
       → Stage room w₀ w′ (with k here r old)
@@ -65,10 +65,10 @@ module _ (room w₀ w : List ℕ) (old : ℕ → ℕ → List ℕ) (s : Stage ro
     unfolding putWords wordsOf
     stage-put =
         stage-of (putWords room k i r w) k (λ j. eqb j i) (λ _. r)
-        (length-put 10 wordStrides room w r k i inside whole)
-        (λ q h. put-before 10 wordStrides room w r k i inside whole q 0 h)
-        (λ j h e. ap (wordsOf room (putWords room k i r w) k) (eqb-true j i e) ∙ put-there 10 wordStrides room w r k i inside whole)
-        (λ m j h f. put-elsewhere 10 wordStrides room w r k i inside whole m j h (λ d e. f d (eq-eqb j i (sym e))))
+        (length-put 11 wordStrides room w r k i inside whole)
+        (λ q h. put-before 11 wordStrides room w r k i inside whole q 0 h)
+        (λ j h e. ap (wordsOf room (putWords room k i r w) k) (eqb-true j i e) ∙ put-there 11 wordStrides room w r k i inside whole)
+        (λ m j h f. put-elsewhere 11 wordStrides room w r k i inside whole m j h (λ d e. f d (eq-eqb j i (sym e))))
 
   -- ---- several records
 
@@ -79,12 +79,12 @@ module _ (room w₀ w : List ℕ) (old : ℕ → ℕ → List ℕ) (s : Stage ro
     all-there zero f h j g = absurd (omega arith)
     all-there (suc n) f h j g = elim (decLt j n) [
       | yes l ↦
-          put-elsewhere 10 wordStrides room (putAll room k from r n w) (r n) k (from + n) inside (h n (omega arith)) k (from + j) (omega arith) (λ _ e. omega arith)
+          put-elsewhere 11 wordStrides room (putAll room k from r n w) (r n) k (from + n) inside (h n (omega arith)) k (from + j) (omega arith) (λ _ e. omega arith)
           ∙ all-there n (omega arith) (λ i q. h i (omega arith)) j l
       | no a ↦
           let e : j ≡ n = omega arith in
           ap (λ (i : ℕ). wordsOf room (putAll room k from r (suc n) w) k (from + i)) e
-          ∙ put-there 10 wordStrides room (putAll room k from r n w) (r n) k (from + n) inside (h n (omega arith))
+          ∙ put-there 11 wordStrides room (putAll room k from r n w) (r n) k (from + n) inside (h n (omega arith))
           ∙ ap r (sym e)
     ]
       where

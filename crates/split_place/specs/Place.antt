@@ -41,7 +41,7 @@ cutOf s t tolerance =
     }
 
 unfoldable pub toleranceAt : Model → ℕ → Float
-toleranceAt m e = effective (edge m e .tolerance) (m .precision)
+toleranceAt m e = effective (m .version) (edge m e .tolerance) (m .precision)
 
 -- 9. "Split point not finite: 4"; 10. "Against start, then end: .. not positive as an interval: 4"
 unfoldable pub pointTest : Segment → Point3 → Float → ℕ

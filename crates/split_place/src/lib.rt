@@ -1,14 +1,13 @@
 // Inner: where the edge is split, tests 1, 9 and 10. `specs/SplitNumber.antt` says what a call is refused with.
 use float_vectors::vector::Point3;
 use float_vectors::vector::is_finite;
-use geom_lines_planes::tolerance::effective_tolerance;
 use geom_signs::apart;
 use memory_layout::layout::reals_of;
 use memory_layout::layout::words_of;
 use memory_layout::names::AT_EDGE_TOLERANCE;
 use memory_layout::names::EDGES;
 use memory_layout::names::FLOAT_EDGE_TOLERANCE;
-use memory_layout::names::PRECISION;
+use memory_records::records::in_effect;
 use memory_records::records::tolerance_of;
 use split_fin_tests::faces::Cut;
 use split_segment::refusals::then;
@@ -49,7 +48,7 @@ pub fn cut_of(segment: Segment, fraction: f64, tolerance: f64) -> Cut
     }
 }
 
-// The edge's tolerance, else the session's.
+// The edge's tolerance in effect.
 pub fn edge_tolerance(room: &[usize; 10], words: &[u32], reals: &[f64], edge: usize) -> f64
     requires { ⌜ Sized (now room) (now words) (now reals) ⌝ }
     requires { ⌜ edge < word (now words) EDGES ⌝ }
@@ -57,9 +56,10 @@ pub fn edge_tolerance(room: &[usize; 10], words: &[u32], reals: &[f64], edge: us
 {
     let w = words_of(room, words, EDGES, edge);
     let x = reals_of(room, reals, EDGES, edge);
-    effective_tolerance(
+    in_effect(
+        words,
+        reals,
         tolerance_of(w[AT_EDGE_TOLERANCE], x[FLOAT_EDGE_TOLERANCE]),
-        reals[PRECISION],
     )
 }
 

@@ -58,6 +58,7 @@ module _ (x : Limits) (m n : Model) (s : SameModel m n) (w : WellFormed x n) (e 
     split-same =
         rw (old, point-same x m n s w e t there ends)
         (record {
+          version = s .version;
           precision = s .precision;
           bodies = s .bodies;
           regions = s .regions;

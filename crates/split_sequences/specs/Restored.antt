@@ -36,6 +36,7 @@ module _ (m after same : Model) (s : SameModel same after) (split : List ℕ) (s
         vertices = rw (s .vertices .used) (r .vertices);
         curves = s .curves .used ∙ r .curves;
         surfaces = s .surfaces .used ∙ r .surfaces;
+        version = s .version ∙ r .version;
         precision = s .precision ∙ r .precision;
         body-regions = old (s .bodies) bodies (λ i a. struckFrom (m .regions .used) (a .regions) ≡ start (m .regions .used) (body m i .regions)) (r .body-regions);
         region-shells = old (s .regions) regions (λ i a. struckFrom (m .shells .used) (a .shells) ≡ start (m .shells .used) (region m i .shells)) (r .region-shells);

@@ -60,6 +60,7 @@ module _ {A : Type 0} {t u : Table A} (s : SameTable t u) where
 pub same-trans : (m n o : Model) → SameModel m n → SameModel n o → SameModel m o
 same-trans m n o s r =
     record {
+      version = s .version ∙ r .version;
       precision = s .precision ∙ r .precision;
       bodies = table-trans (s .bodies) (r .bodies);
       regions = table-trans (s .regions) (r .regions);

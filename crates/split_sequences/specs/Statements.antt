@@ -24,7 +24,7 @@ use Rattle.meaning_split_laws.specs.Rows.{Passes, RefusedAt}
 use Rattle.meaning_split_laws.specs.After.{bodies-kept, shells-kept}
 use Rattle.meaning_split_laws.specs.Kept.{split-keeps}
 use Rattle.meaning_split_laws.specs.Refusals.{one-row}
-use Rattle.meaning_split_laws.specs.Statements.{stays-well-formed, empty-report-stays, accepted-split-adds-one, accepted-split-leaves-others, euler-number-stays, gives-back, gives-back-any, wire-edge-follows}
+use Rattle.meaning_split_laws.specs.Statements.{stays-well-formed, empty-report-stays, accepted-split-adds-one, accepted-split-leaves-others, euler-number-stays, version-stays, gives-back, gives-back-any, wire-edge-follows}
 use Rattle.split_effect.specs.Statements.{HoldsModel, same-model, split-model}
 use Rattle.split_sequences.specs.Sequence.{callsWords, callsReals, callsEdges}
 use Rattle.split_sequences.specs.CallRows.{callRows}
@@ -80,6 +80,10 @@ module _ (room w : List ℕ) (x : List Float) (l : List Cut) (s : Sound room w x
       euler-same (afterAll (limits room) before l) behind b
       (walks-same (limits room) behind (afterAll (limits room) before l) (calls-model .model) after-formed b (still-there b hb))
       ∙ euler-number-stays (limits room) before l (s .formed) b hb
+
+  -- (W-211) "A model names its version and keeps it through splits"
+  pub memory-keeps-version : decode room (callsWords room w x l) (callsReals room w x l) .version ≡ decode room w x .version
+  memory-keeps-version = calls-model .model .version ∙ version-stays (limits room) before l
 
   -- 4. "Striking out what was added gives back every stored list in its starting order", and every other field of every old record is as it was but for the
   -- end of an edge that was split (`Restored`: meaning_split_laws/specs/Terms.antt)

@@ -123,7 +123,7 @@ module _ (x : Limits) (m n : Model) (s : SameModel m n) (w : WellFormed x n) (e 
 
       on-plane-same : (p : Plane) (u : Float) → onPlane m e p u ≡ onPlane n e p u
       unfolding onPlane
-      on-plane-same p u = rw (carrier-same, edge-same, s .precision)
+      on-plane-same p u = rw (carrier-same, edge-same, s .version, s .precision)
 
       fin-test-same : (i : ℕ) → ltb i (n .fins .used) ≡ true → test11-fin m e t i ≡ test11-fin n e t i
       unfolding test11-fin

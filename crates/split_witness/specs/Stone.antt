@@ -23,6 +23,7 @@ more n t = record { used = t .used + n; slot = t .slot }
 abbrev spacious : Model
 spacious =
     record {
+      version = stone .version;
       precision = stone .precision;
       bodies = stone .bodies;
       regions = stone .regions;
@@ -54,6 +55,7 @@ pub stone-decodes : SameModel (decode stoneRoom stoneWords stoneReals) stone
 unfolding computing decode listAt base wordsOf realsOf stoneRoom stoneWords stoneReals
 stone-decodes =
     record {
+      version = refl;
       precision = refl;
       bodies = same-table _ _ refl refl;
       regions = same-table _ _ refl refl;

@@ -201,7 +201,7 @@ fn stands(answer: Inserted) -> bool {
 }
 
 // The body, its void and its solid region, each with its shell.
-fn put_body(room: &[usize; 10], words: &mut [u32; 8377], reals: &mut [f64; 158]) -> bool {
+fn put_body(room: &[usize; 10], words: &mut [u32; 8378], reals: &mut [f64; 158]) -> bool {
     let mut ok = stands(insert_body(room, &mut words[..], &mut reals[..], BodyKind::Solid));
     let mut i = 0u32;
     while i < 2 {
@@ -223,7 +223,7 @@ fn put_body(room: &[usize; 10], words: &mut [u32; 8377], reals: &mut [f64; 158])
     ok
 }
 
-fn put_vertices(room: &[usize; 10], words: &mut [u32; 8377], reals: &mut [f64; 158]) -> bool {
+fn put_vertices(room: &[usize; 10], words: &mut [u32; 8378], reals: &mut [f64; 158]) -> bool {
     let mut ok = true;
     let mut i = 0;
     while i < 8 {
@@ -241,7 +241,7 @@ fn put_vertices(room: &[usize; 10], words: &mut [u32; 8377], reals: &mut [f64; 1
 }
 
 // The line of edge i.
-fn put_line(room: &[usize; 10], words: &mut [u32; 8377], reals: &mut [f64; 158], i: usize) -> bool {
+fn put_line(room: &[usize; 10], words: &mut [u32; 8378], reals: &mut [f64; 158], i: usize) -> bool {
     if 12 <= i {
         return false;
     }
@@ -253,7 +253,7 @@ fn put_line(room: &[usize; 10], words: &mut [u32; 8377], reals: &mut [f64; 158],
 }
 
 // The two fins of edge i, in its list.
-fn list_fins(room: &[usize; 10], words: &mut [u32; 8377], reals: &[f64; 158], i: usize) -> bool {
+fn list_fins(room: &[usize; 10], words: &mut [u32; 8378], reals: &[f64; 158], i: usize) -> bool {
     if 12 <= i {
         return false;
     }
@@ -271,7 +271,7 @@ fn list_fins(room: &[usize; 10], words: &mut [u32; 8377], reals: &[f64; 158], i:
 
 fn put_edge(
     room: &[usize; 10],
-    words: &mut [u32; 8377],
+    words: &mut [u32; 8378],
     reals: &mut [f64; 158],
     i: usize,
     curve: u32,
@@ -293,7 +293,7 @@ fn put_edge(
     lies & put & listed
 }
 
-fn put_edges(room: &[usize; 10], words: &mut [u32; 8377], reals: &mut [f64; 158]) -> bool {
+fn put_edges(room: &[usize; 10], words: &mut [u32; 8378], reals: &mut [f64; 158]) -> bool {
     let mut ok = true;
     let mut i = 0u32;
     while i < 12 {
@@ -306,7 +306,7 @@ fn put_edges(room: &[usize; 10], words: &mut [u32; 8377], reals: &mut [f64; 158]
 // The plane of face i.
 fn put_plane(
     room: &[usize; 10],
-    words: &mut [u32; 8377],
+    words: &mut [u32; 8378],
     reals: &mut [f64; 158],
     i: usize,
 ) -> bool {
@@ -323,7 +323,7 @@ fn put_plane(
 // A face in the lists of both shells, and its loop in its own.
 fn list_face(
     room: &[usize; 10],
-    words: &mut [u32; 8377],
+    words: &mut [u32; 8378],
     reals: &[f64; 158],
     i: usize,
     id: u32,
@@ -337,7 +337,7 @@ fn list_face(
 // A face, of the void's shell in front and the material's behind, and its loop.
 fn put_face(
     room: &[usize; 10],
-    words: &mut [u32; 8377],
+    words: &mut [u32; 8378],
     reals: &mut [f64; 158],
     i: usize,
     id: u32,
@@ -357,7 +357,7 @@ fn put_face(
     lies & face & rim & listed
 }
 
-fn put_faces(room: &[usize; 10], words: &mut [u32; 8377], reals: &mut [f64; 158]) -> bool {
+fn put_faces(room: &[usize; 10], words: &mut [u32; 8378], reals: &mut [f64; 158]) -> bool {
     let mut ok = true;
     let mut i = 0u32;
     while i < 6 {
@@ -367,7 +367,7 @@ fn put_faces(room: &[usize; 10], words: &mut [u32; 8377], reals: &mut [f64; 158]
     ok
 }
 
-fn put_fins(room: &[usize; 10], words: &mut [u32; 8377], reals: &mut [f64; 158]) -> bool {
+fn put_fins(room: &[usize; 10], words: &mut [u32; 8378], reals: &mut [f64; 158]) -> bool {
     let mut ok = true;
     let mut i = 0u32;
     while i < 24 {
@@ -398,8 +398,8 @@ fn put_fins(room: &[usize; 10], words: &mut [u32; 8377], reals: &mut [f64; 158])
 }
 
 // Whether the whole stone stands in the lent memory.
-pub fn trial_stone(room: &[usize; 10], words: &mut [u32; 8377], reals: &mut [f64; 158]) -> bool {
-    let made = make(room, &mut words[..], &mut reals[..], 0.001) == 0;
+pub fn trial_stone(room: &[usize; 10], words: &mut [u32; 8378], reals: &mut [f64; 158]) -> bool {
+    let made = make(room, &mut words[..], &mut reals[..], 0.001, 1) == 0;
     let body = put_body(room, words, reals);
     let vertices = put_vertices(room, words, reals);
     let edges = put_edges(room, words, reals);

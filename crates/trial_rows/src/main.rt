@@ -123,7 +123,7 @@ fn vertices_into(words: &[u32], reals: &[f64], out: &mut [u32]) {
 }
 
 // The walks into lists that hold 99 at each place: one place more than a walk needs, then one less.
-fn walks(words: &[u32; 8377], reals: &[f64; 158]) {
+fn walks(words: &[u32; 8378], reals: &[f64; 158]) {
     let w = &words[..];
     let x = &reals[..];
     let mut more = [99u32; 7];
@@ -140,7 +140,7 @@ fn walks(words: &[u32; 8377], reals: &[f64; 158]) {
     vertices_into(w, x, &mut less);
 }
 
-fn volume(words: &[u32; 8377], reals: &[f64; 158]) {
+fn volume(words: &[u32; 8378], reals: &[f64; 158]) {
     let mut marks = [0u8; 6];
     io::write_all(1, b"volume:");
     match body_volume(&ROOM, &words[..], &reals[..], 0, &mut marks) {
@@ -160,7 +160,7 @@ fn print_box(answer: BoxFound) {
     }
 }
 
-fn corners(words: &[u32; 8377], reals: &[f64; 158]) {
+fn corners(words: &[u32; 8378], reals: &[f64; 158]) {
     let mut marks = [0u8; 6];
     let mut seen = [0u8; 13];
     let mut met = [0u8; 9];
@@ -177,7 +177,7 @@ fn corners(words: &[u32; 8377], reals: &[f64; 158]) {
     io::write_all(1, b"\n");
 }
 
-fn print_vertex(words: &[u32; 8377], reals: &[f64; 158], id: u32) {
+fn print_vertex(words: &[u32; 8378], reals: &[f64; 158], id: u32) {
     match vertex(&ROOM, &words[..], &reals[..], id as usize) {
         VertexFound::Is(v) => print_point(v.point),
         VertexFound::Refused(n) => print_refusal(n),
@@ -185,12 +185,12 @@ fn print_vertex(words: &[u32; 8377], reals: &[f64; 158], id: u32) {
 }
 
 // The vertex that a split of A made, or the refusal.
-fn cut(words: &mut [u32; 8377], reals: &mut [f64; 158], fraction: f64) -> Split {
+fn cut(words: &mut [u32; 8378], reals: &mut [f64; 158], fraction: f64) -> Split {
     split_line_edge(&ROOM, &mut words[..], &mut reals[..], 0, fraction)
 }
 
 // A of a new stone, split at a fraction: where the new vertex lies.
-fn split_at(words: &mut [u32; 8377], reals: &mut [f64; 158], fraction: f64) {
+fn split_at(words: &mut [u32; 8378], reals: &mut [f64; 158], fraction: f64) {
     trial_stone(&ROOM, words, reals);
     io::write_all(1, b"A at");
     print_float(fraction);
@@ -234,7 +234,7 @@ fn print_report(answer: Checked, list: &[u32; 16]) {
     }
 }
 
-fn report(words: &[u32; 8377], reals: &[f64; 158]) {
+fn report(words: &[u32; 8378], reals: &[f64; 158]) {
     let mut marks = [0u8; 6];
     let mut seen = [0u8; 13];
     let mut list = [0u32; 16];
@@ -267,7 +267,7 @@ fn print_verdict(answer: Sawable) {
     }
 }
 
-fn verdict(words: &[u32; 8377], reals: &[f64; 158]) {
+fn verdict(words: &[u32; 8378], reals: &[f64; 158]) {
     let mut marks = [0u8; 6];
     let mut seen = [0u8; 13];
     print_verdict(fit_to_saw(&ROOM, &words[..], &reals[..], 0, &mut marks, &mut seen));
@@ -282,7 +282,7 @@ fn sum() {
     io::write_all(1, b"\n");
 }
 
-fn splits(words: &mut [u32; 8377], reals: &mut [f64; 158]) {
+fn splits(words: &mut [u32; 8378], reals: &mut [f64; 158]) {
     split_at(words, reals, 0.25);
     split_at(words, reals, 0.0);
     split_at(words, reals, 1.0);
@@ -292,12 +292,12 @@ fn splits(words: &mut [u32; 8377], reals: &mut [f64; 158]) {
 }
 
 // Strikes an entry out of a list.
-fn strike(words: &mut [u32; 8377], reals: &[f64; 158], j: usize, i: usize, place: usize) {
+fn strike(words: &mut [u32; 8378], reals: &[f64; 158], j: usize, i: usize, place: usize) {
     strike_entry(&ROOM, &mut words[..], &reals[..], j, i, place);
 }
 
 fn main() {
-    let mut words = [0u32; 8377];
+    let mut words = [0u32; 8378];
     let mut reals = [0.0; 158];
     trial_stone(&ROOM, &mut words, &mut reals);
     walks(&words, &reals);

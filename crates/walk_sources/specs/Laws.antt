@@ -23,7 +23,7 @@ use Rattle.walk_sources.specs.Sources.{entryTables, finEdge, endOf, ends
 
 pub used-words : (room w : List ℕ) (k : ℕ) → Lists room w → k < 10 → k < length w
 used-words room w k f h =
-    let b = before-tables 10 wordStrides room 10 in
+    let b = before-tables 11 wordStrides room 10 in
     omega (arith, f .words)
 
 pub entry-table : (j : ℕ) → j < 8 → word entryTables j < 10

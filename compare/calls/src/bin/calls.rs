@@ -5,18 +5,47 @@
 use std::env;
 use std::process::ExitCode;
 
-use calls::layout::{LARGEST, LISTS, Lent};
+use calls::layout::{LARGEST, LISTS, Lent, VERSION};
 use calls::operations::{Operation, Record, sequence};
 use calls::queries::Query;
 use calls::spoil::spoil;
 use calls::tally::Tally;
 use calls::walks::Walk;
-use calls::wrong::{MISLED, Misled, WRONGS, Wrong};
+use calls::wrong::{BESIDES, Beside, MISLED, Misled, Step, WRONGS, Wrong};
 use gensolid_topo::Model;
 use models::original::{self, Names};
-use models::plain::Plain;
+use models::plain::{Plain, Version};
 use models::random::Random;
-use models::{Made, Sort, made};
+use models::{Made, Sort, either, made};
+
+/// The station, or a wrong one: with another operation in the place of one, or with something besides.
+#[derive(Clone, Copy)]
+enum Station<'a> {
+    Right,
+    Instead(&'a Wrong),
+    Beside(&'a Beside),
+}
+
+impl Station<'_> {
+    fn make(self, lent: &mut Lent, precision: f64, version: u32) -> u32 {
+        let number = lent.make(precision, version);
+        match self {
+            Self::Beside(wrong) => wrong.1(Step::Make(version), number, lent),
+            _ => number,
+        }
+    }
+
+    fn carry_out(self, operation: &Operation, lent: &mut Lent) -> u32 {
+        match self {
+            Self::Right => operation.ours(lent),
+            Self::Instead(wrong) => wrong.1(operation).as_ref().unwrap_or(operation).ours(lent),
+            Self::Beside(wrong) => {
+                let number = operation.ours(lent);
+                wrong.1(Step::Do(operation), number, lent)
+            }
+        }
+    }
+}
 
 /// Capacities for a model: at times just what it has, at times a few more, rarely the largest.
 fn room(plain: &Plain, random: &mut Random) -> [usize; 10] {
@@ -28,16 +57,29 @@ fn room(plain: &Plain, random: &mut Random) -> [usize; 10] {
     std::array::from_fn(|k| (used[k] + random.below(spare)).min(LARGEST[k]))
 }
 
-/// Making an empty model, whatever the memory holds, and a precision that is none.
-fn empty(tally: &mut Tally, precision: f64, room: [usize; 10], random: &mut Random) -> Lent {
+/// Making an empty model of the version that is asked about, whatever the memory holds, and a precision and versions that are none.
+fn empty(tally: &mut Tally, precision: f64, room: [usize; 10], random: &mut Random, station: Station) -> Lent {
     let mut lent = Lent::new(room, random.bits() as u32, f64::from_bits(random.bits()));
     let before = lent.clone();
     let bad = random.pick(&[0.0, -0.0, -1.0, f64::NAN, f64::INFINITY]);
-    let given = (lent.make(bad), lent == before);
+    let version = original::version() as u32;
+    let given = (station.make(&mut lent, bad, version), lent == before);
     tally.same("a precision that is none", &(1, true), &given, || {
         format!("{bad:?}")
     });
-    tally.same("making", &0, &lent.make(precision), || "make".into());
+    for (precision, none) in [(precision, 0), (precision, 3), (precision, u32::MAX), (bad, 0)] {
+        let given = (station.make(&mut lent, precision, none), lent == before);
+        tally.same("a version that is none", &(1, true), &given, || {
+            format!("{none}, precision {precision:?}")
+        });
+    }
+    let given = station.make(&mut lent, precision, version);
+    tally.same("making", &0, &given, || "make".into());
+    let mut after = before;
+    after.words[..VERSION].fill(0);
+    after.words[VERSION] = version;
+    after.reals[0] = precision;
+    tally.same("memory behind making", &true, &(lent == after), || format!("version {version}"));
     lent
 }
 
@@ -48,13 +90,12 @@ fn built(
     made: &Made,
     lent: &mut Lent,
     random: &mut Random,
-    wrong: Option<&Wrong>,
+    station: Station,
 ) {
     let mut model = Model::new(*made.model.precision());
     for operation in sequence(&made.plain, random) {
         let rust = operation.original(&mut model, names, &made.model);
-        let other = wrong.and_then(|wrong| wrong.1(&operation));
-        let ours = other.as_ref().unwrap_or(&operation).ours(lent);
+        let ours = station.carry_out(&operation, lent);
         tally.met(operation.name(), rust);
         tally.same("operations", &rust, &ours, || format!("{operation:?}"));
         if random.one_in(400) {
@@ -94,7 +135,7 @@ fn filled(tally: &mut Tally, names: &Names, plain: &Plain, finished: &Model) {
         room[k] = LARGEST[k];
         let mut lent = Lent::new(room, 7, 7.0);
         let mut model = Model::new(*finished.precision());
-        tally.same("making", &0, &lent.make(plain.precision), || "make".into());
+        tally.same("making", &0, &lent.make(plain.precision, 1), || "make".into());
         let operation = Operation::Insert(Record::of(plain, k, 0));
         for _ in 0..LARGEST[k] {
             // The Rust takes its carriers from a finished model, by number.
@@ -116,7 +157,7 @@ fn filled(tally: &mut Tally, names: &Names, plain: &Plain, finished: &Model) {
         tally.begin(format!("list {j} filled"));
         let mut lent = Lent::new([2; 10], 7, 7.0);
         let mut model = Model::new(*finished.precision());
-        tally.same("making", &0, &lent.make(plain.precision), || "make".into());
+        tally.same("making", &0, &lent.make(plain.precision, 1), || "make".into());
         let record = Operation::Insert(Record::of(plain, k, 0));
         let appends = (0..limit).map(|id| Operation::Append(j, 1, id));
         for operation in [record.clone(), record].into_iter().chain(appends) {
@@ -199,6 +240,7 @@ fn queries(
 ) {
     let used = made.plain.used();
     let mut questions: Vec<Query> = made.near.iter().map(|&edge| Query::Bounds(edge)).collect();
+    questions.push(Query::Version);
     for _ in 0..8 {
         questions.push(Query::Ends(random.below(used[5] + 1)));
         questions.push(Query::Bounds(random.below(used[6] + 1)));
@@ -222,6 +264,10 @@ fn queries(
             Query::Contains(class, id) => {
                 let yes = original::contains(&made.model, names, class, id);
                 (vec![0, yes.into()], format!("{yes}"))
+            }
+            Query::Version => {
+                let version = made.plain.version;
+                (vec![0, version as u64], format!("{version:?}"))
             }
         };
         tally.met(query.name(), words);
@@ -278,6 +324,7 @@ fn unreadable(tally: &mut Tally, lent: &Lent, random: &mut Random) {
     let id = random.below(3);
     let mut numbers = spoiled.refusals(id).to_vec();
     numbers.extend(spoiled.precision().err().or(Some(0)));
+    numbers.extend(spoiled.version().err().or(Some(0)));
     numbers.extend(spoiled.entry(random.below(9), id, 0).err().or(Some(0)));
     let class = random.below(9) as u32;
     for query in [Query::Ends(id), Query::Bounds(id), Query::Contains(class, id)] {
@@ -296,8 +343,50 @@ fn unreadable(tally: &mut Tally, lent: &Lent, random: &mut Random) {
             format!("{what}: readable {readable}, ours {numbers:?}")
         });
     }
+    // What is edited and split is refused too, and what is made where the capacities or lengths are wrong, before all else.
+    if !readable {
+        let list = random.below(9);
+        let mut numbers = vec![spoiled.append(list, id, 0), spoiled.put_entry(list, id, 0, 0), spoiled.strike(list, id, 0)];
+        numbers.extend([spoiled.mark(id), spoiled.split_alone(id, random.pick(&[0.5, 0.0])).0]);
+        let k = random.below(10);
+        if lent.words[k] > 0
+            && let Ok(plain) = lent.read()
+        {
+            let record = Record::of(&plain, k, 0);
+            numbers.extend([spoiled.insert(&record).err().unwrap_or(0), spoiled.set(id, &record)]);
+        }
+        if !spoiled.spacious() {
+            numbers.extend([spoiled.make(0.001, 1), spoiled.make(0.0, 3)]);
+        }
+        tally.compared("refusals 9 of edits", numbers.len());
+        if numbers.iter().any(|&n| !nine(n)) {
+            tally.differs("refusals 9 of edits", || format!("{what}: ours {numbers:?}"));
+        }
+    }
     if spoiled != before {
         tally.differs("refusals 9", || format!("{what}: the memory is altered"));
+    }
+}
+
+/// One model by operations, and as one of version 2, by a wrong station.
+fn operated(tally: &mut Tally, names: &Names, [seed, number]: [u64; 2], station: Station) {
+    let Some(made) = made(names, Sort::Several, seed, number, None) else {
+        return;
+    };
+    tally.begin(String::new());
+    for version in [Version::First, Version::Second] {
+        original::by(version, || {
+            let mut random = Random::new(seed, number, 200);
+            let made = match version {
+                Version::First => Some(made.clone()),
+                Version::Second => either(&made, names, &mut random),
+            };
+            if let Some(made) = made {
+                let room = made.plain.used().map(|n| n + 1);
+                let mut lent = empty(tally, made.plain.precision, room, &mut random, station);
+                built(tally, names, &made, &mut lent, &mut random, station);
+            }
+        });
     }
 }
 
@@ -305,58 +394,42 @@ fn unreadable(tally: &mut Tally, lent: &Lent, random: &mut Random) {
 fn wrongs(count: u64, seed: u64) -> ExitCode {
     let names = Names::new();
     let mut unseen = 0;
-    for wrong in &WRONGS {
+    let mut tried = |what: &str, ask: &dyn Fn(&mut Tally, u64)| {
         let mut tally = Tally::quiet();
         let mut number = 0;
         while (tally.models as u64) < count && tally.differing() == 0 {
             number += 1;
-            let Some(made) = made(&names, Sort::Several, seed, number, None) else {
-                continue;
-            };
-            tally.begin(String::new());
-            let mut random = Random::new(seed, number, 200);
-            let room = made.plain.used().map(|n| n + 1);
-            let mut lent = empty(&mut tally, made.plain.precision, room, &mut random);
-            built(
-                &mut tally,
-                &names,
-                &made,
-                &mut lent,
-                &mut random,
-                Some(wrong),
-            );
+            ask(&mut tally, number);
         }
         if tally.differing() == 0 {
-            println!("a station that {}: not seen on {count} models", wrong.0);
+            println!("a station that {what}: not seen on {count} models");
             unseen += 1;
         } else {
-            println!("a station that {}: seen on model {number}", wrong.0);
+            println!("a station that {what}: seen on model {number}");
         }
+    };
+    for wrong in &WRONGS {
+        tried(wrong.0, &|tally, number| operated(tally, &names, [seed, number], Station::Instead(wrong)));
+    }
+    for wrong in &BESIDES {
+        tried(wrong.0, &|tally, number| operated(tally, &names, [seed, number], Station::Beside(wrong)));
     }
     for misled in &MISLED {
-        let mut tally = Tally::quiet();
-        let mut number = 0;
-        while (tally.models as u64) < count && tally.differing() == 0 {
-            number += 1;
-            asked(&mut tally, &names, seed, number, Some(misled));
-        }
-        if tally.differing() == 0 {
-            println!("a station that {}: not seen on {count} models", misled.0);
-            unseen += 1;
-        } else {
-            println!("a station that {}: seen on model {number}", misled.0);
-        }
+        tried(misled.0, &|tally, number| asked(tally, &names, seed, number, Some(misled)));
     }
-    let stations = WRONGS.len() + MISLED.len();
+    let stations = WRONGS.len() + BESIDES.len() + MISLED.len();
     println!("{stations} wrong stations, {unseen} not seen");
     ExitCode::from(u8::from(unseen > 0))
 }
 
-/// The questions about one model, laid out with none of the calls.
+/// The questions about one model, laid out with none of the calls; every other one is of version 2.
 fn asked(tally: &mut Tally, names: &Names, seed: u64, number: u64, misled: Option<&Misled>) {
-    let Some(made) = made(names, Sort::Several, seed, number, None) else {
+    let Some(mut made) = made(names, Sort::Several, seed, number, None) else {
         return;
     };
+    if number % 2 == 0 {
+        made.plain.version = Version::Second;
+    }
     tally.begin(format!(
         "model {number} of seed {seed}: {}",
         made.told.join("; ")
@@ -403,6 +476,23 @@ fn questions(count: u64, seed: u64) -> ExitCode {
     tally.end()
 }
 
+/// All that is asked of one model.
+fn whole(tally: &mut Tally, names: &Names, made: &Made, random: &mut Random) {
+    let plain = &made.plain;
+    let room = room(plain, random);
+    let mut lent = empty(tally, plain.precision, room, random, Station::Right);
+    built(tally, names, made, &mut lent, random, Station::Right);
+    beyond(tally, plain, &mut lent);
+    missing(tally, plain, &lent, random);
+    walks(tally, names, &made.model, &lent, random);
+    queries(tally, names, made, &lent, random, None);
+    unreadable(tally, &lent, random);
+    // The same model laid out with none of the calls, and noise around it.
+    let noise = (random.bits() as u32, f64::from_bits(random.bits()));
+    let laid = Lent::holding(plain, room, noise.0, noise.1);
+    records(tally, plain, &laid);
+}
+
 fn compare(count: u64, seed: u64) -> ExitCode {
     let names = Names::new();
     let mut tally = Tally::default();
@@ -424,19 +514,18 @@ fn compare(count: u64, seed: u64) -> ExitCode {
             made.told.join("; ")
         ));
         tally.met("damages", made.told.len() - 1);
-        let mut random = Random::new(seed, number, 200);
-        let room = room(plain, &mut random);
-        let mut lent = empty(&mut tally, plain.precision, room, &mut random);
-        built(&mut tally, &names, &made, &mut lent, &mut random, None);
-        beyond(&mut tally, plain, &mut lent);
-        missing(&mut tally, plain, &lent, &mut random);
-        walks(&mut tally, &names, &made.model, &lent, &mut random);
-        queries(&mut tally, &names, &made, &lent, &mut random, None);
-        unreadable(&mut tally, &lent, &mut random);
-        // The same model laid out with none of the calls, and noise around it.
-        let noise = (random.bits() as u32, f64::from_bits(random.bits()));
-        let laid = Lent::holding(plain, room, noise.0, noise.1);
-        records(&mut tally, plain, &laid);
+        whole(&mut tally, &names, &made, &mut Random::new(seed, number, 200));
+        // Every fourth once more, of version 2.
+        if number % 4 == 0 {
+            original::by(Version::Second, || {
+                let mut random = Random::new(seed, number, 201);
+                if let Some(made) = either(&made, &names, &mut random) {
+                    tally.met("models once more", &made.told[0]);
+                    tally.again(&made.told[0]);
+                    whole(&mut tally, &names, &made, &mut random);
+                }
+            });
+        }
     }
     tally.end()
 }

@@ -8,16 +8,16 @@ use std::process::ExitCode;
 use std::time::{Duration, Instant};
 
 use calls::image::{
-    Body, Carrier, Edge, FIRST, Face, Fin, Kept, Loop, MARKS, MOST, Region, Shell, Vertex, decode,
-    encode,
+    Body, Carrier, Edge, FIRST, Face, Fin, Kept, Loop, MARKS, MOST, Region, Shell, VERSION_MARK,
+    VERSION_RECORD, Vertex, begins, decode, encode,
 };
 use calls::image_wrong::WRONGS;
 use calls::images::{Station, UNTOUCHED_LENGTH, apart, expected, put, same, same_model};
-use calls::layout::{LARGEST, LISTS, Lent};
+use calls::layout::{LARGEST, LISTS, Lent, VERSION};
 use calls::noise::{BORDERS, FIELDS, full, garbage, room, shaped, split, wild};
 use calls::spoil::spoil;
 use calls::tally::Tally;
-use models::plain::Plain;
+use models::plain::{Plain, Version};
 use models::random::Random;
 
 /// Images up to this length are small: they are changed byte by byte.
@@ -201,11 +201,49 @@ fn field(image: &mut [u8], at: usize, k: usize, random: &mut Random) {
     }
 }
 
+/// The image with another version's record in its place, cut, twice, and behind the precision's; or with none, where it had one.
+fn versions(tally: &mut Tally, station: Station, image: &[u8], slate: &mut Slate) {
+    let rest = &image[begins(image)..];
+    for number in [0, 1, 2, 3, 258, 2 << 8, 2 << 24, 1 << 31, u32::MAX] {
+        let record = [&VERSION_MARK[..], &u32::to_le_bytes(number)].concat();
+        slate.read(tally, station, &[&record[..], rest].concat(), || {
+            format!("a version's record of {number}")
+        });
+    }
+    for n in 0..6 {
+        let cut = &VERSION_RECORD[..n];
+        slate.read(tally, station, cut, || format!("{n} bytes of a version's record"));
+        slate.read(tally, station, &[cut, rest].concat(), || {
+            format!("{n} bytes of a version's record, and the image")
+        });
+    }
+    for mark in [b"NV", b"vn", b"VE", b"VM", b"PR", b"\0N"] {
+        let record = [&mark[..], &VERSION_RECORD[2..]].concat();
+        slate.read(tally, station, &[&record[..], rest].concat(), || {
+            format!("a version's record with the mark {mark:?}")
+        });
+    }
+    for n in [1, 2] {
+        let records = VERSION_RECORD.repeat(n);
+        let (front, behind) = rest.split_at(FIRST);
+        slate.read(tally, station, &[&records[..], &VERSION_RECORD, rest].concat(), || {
+            format!("a version's record {} times", n + 1)
+        });
+        slate.read(tally, station, &[front, &records, behind].concat(), || {
+            format!("{n} of a version's record behind the precision's")
+        });
+        slate.read(tally, station, &[rest, &records].concat(), || {
+            format!("{n} of a version's record at the end")
+        });
+    }
+}
+
 /// What is not an image any more, or another model's: cut between two records, a record left out, a record twice, a field of a record changed; the
 /// precision; and single bytes changed, dropped and added, at all places, or at some.
 fn changed(tally: &mut Tally, station: Station, image: &[u8], kept: &Kept, random: &mut Random) {
     let mut slate = Slate::fitting(kept.used(), random);
-    let mut at = FIRST;
+    versions(tally, station, image, &mut slate);
+    let mut at = kept.front();
     let sizes = kept.sizes().into_iter().enumerate();
     for (k, size) in sizes.flat_map(|(k, sizes)| sizes.into_iter().map(move |size| (k, size))) {
         let (record, behind) = (&image[at..at + size], &image[at + size..]);
@@ -230,7 +268,7 @@ fn changed(tally: &mut Tally, station: Station, image: &[u8], kept: &Kept, rando
     }
     for precision in BORDERS {
         let mut other = image.to_vec();
-        put(&mut other, 42, &precision.to_le_bytes());
+        put(&mut other, begins(image) + 42, &precision.to_le_bytes());
         slate.read(tally, station, &other, || {
             format!("the precision {precision:#x}")
         });
@@ -272,6 +310,7 @@ fn changed(tally: &mut Tally, station: Station, image: &[u8], kept: &Kept, rando
 /// A model with one record of each table and no entries.
 fn single() -> Kept {
     Kept {
+        version: Version::First,
         precision: 0.001,
         bodies: vec![Body {
             kind: 3,
@@ -369,7 +408,9 @@ fn limits(tally: &mut Tally, station: Station, random: &mut Random) {
     let lists = LISTS.iter().enumerate().flat_map(|(j, list)| {
         [list.2, list.2 + 1].map(|n| (long(j, n), format!("{n} entries of list {j}")))
     });
-    for (kept, what) in tables.chain(lists) {
+    for (k, (mut kept, what)) in tables.chain(lists).enumerate() {
+        // Two of either version in turn.
+        kept.version = if k % 4 < 2 { Version::First } else { Version::Second };
         let image = encode(&kept);
         slate.read(tally, station, &image, || what.clone());
         scarce.read(tally, station, &image, || {
@@ -406,8 +447,12 @@ fn compared(tally: &mut Tally, station: Station, [seed, number]: [u64; 2]) {
             format!("{what}, cut to {} bytes", cut.len())
         });
     }
-    // Over the model itself, and over what cannot be read.
+    // Over the model itself, as it is and of the other version, and over what cannot be read.
+    tally.met("models by version", kept.version as u32);
     Slate::new(lent.clone()).read(tally, station, &image, || "over itself".into());
+    let mut other = lent.clone();
+    other.words[VERSION] = 3 - other.words[VERSION];
+    Slate::new(other).read(tally, station, &image, || "over the other version".into());
     let mut spoiled = lent;
     for _ in 0..random.pick(&[1, 1, 3]) {
         if spoiled.readable() {
@@ -453,9 +498,9 @@ fn small(random: &mut Random) -> (Vec<u8>, [usize; 10]) {
 /// Bytes that are mostly no image: any, an image's front and any, counts of any size, some bytes or numbers of an image changed, two images
 /// in one; and what they are.
 fn any(base: &[u8], random: &mut Random) -> (Vec<u8>, &'static str) {
-    let n = base.len();
+    let (n, from) = (base.len(), begins(base));
     let mut image = base.to_vec();
-    let what = match random.below(8) {
+    let what = match random.below(10) {
         0 => {
             let n = random.below(200);
             image = bytes(n, random);
@@ -468,14 +513,14 @@ fn any(base: &[u8], random: &mut Random) -> (Vec<u8>, &'static str) {
             "an image's front, and any bytes"
         }
         2 => {
-            image.truncate(FIRST);
+            image.truncate(from + FIRST);
             for k in 0..10 {
                 let count = if random.one_in(4) {
                     1 + random.below(2)
                 } else {
                     0
                 };
-                put(&mut image, 2 + 4 * k, &[count as u8, 0, 0, 0]);
+                put(&mut image, from + 2 + 4 * k, &[count as u8, 0, 0, 0]);
                 for _ in 0..count {
                     image.extend(MARKS[k + 1]);
                     // As many numbers as the record has without entries; two of them are a float.
@@ -490,7 +535,7 @@ fn any(base: &[u8], random: &mut Random) -> (Vec<u8>, &'static str) {
             let k = random.below(10);
             let most = MOST[k] as u32;
             let count = random.pick(&[most, most + 1, 1 << 16, 1 << 31, u32::MAX]);
-            put(&mut image, 2 + 4 * k, &count.to_le_bytes());
+            put(&mut image, from + 2 + 4 * k, &count.to_le_bytes());
             "a count at its limit or above it"
         }
         4 => {
@@ -513,6 +558,20 @@ fn any(base: &[u8], random: &mut Random) -> (Vec<u8>, &'static str) {
             image.truncate(at);
             image.extend(&second[from..]);
             "two images in one"
+        }
+        7 => {
+            let any = random.bits() as u32;
+            let number = random.pick(&[0, 1, 2, 2, 2, 3, 258, u32::MAX, any]);
+            let record = [&VERSION_MARK[..], &number.to_le_bytes()].concat();
+            image.splice(..from, record);
+            "another version"
+        }
+        8 => {
+            image.drain(..from);
+            let any = random.below(image.len() + 1);
+            let at = random.pick(&[0, 0, FIRST, any]);
+            image.splice(at..at, VERSION_RECORD);
+            "the version's record in another place"
         }
         _ => {
             let at = random.below(n);

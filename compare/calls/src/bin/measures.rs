@@ -5,14 +5,16 @@
 use std::env;
 use std::process::ExitCode;
 
-use calls::layout::{LARGEST, LISTS, Lent};
+use calls::layout::{LARGEST, LISTS, Lent, VERSION};
 use calls::spoil::spoil;
 use calls::tally::Tally;
+use gensolid_core::{Tolerance, effective_tolerance};
 use gensolid_topo::Model;
-use models::original::{self, Names, published};
-use models::plain::{Carrier, Plain};
+use models::around::{self, Own};
+use models::original::{self, Names, Rule, by, published, ruled, version};
+use models::plain::{Plain, Version};
 use models::random::Random;
-use models::{Made, Sort, fraction, made, unlisted};
+use models::{Made, Sort, either, fraction, made, unlisted};
 
 /// What a wrong station is, and what it makes of a right answer: of a split, with the memory before and
 /// behind it; of a box or a volume; of a report and the number of its faults; of a verdict about a body.
@@ -27,6 +29,38 @@ enum How {
     Fit(fn(&Lent, usize, &[u64]) -> Option<Vec<u64>>),
     /// Splits by the published sums.
     Sums,
+    /// Splits, reports and verdicts of models of a version, by another rule for the tolerance in effect.
+    SplitBy(Version, Rule),
+    ReportBy(Version, Rule),
+    FitBy(Version, Rule),
+    /// Reports of models of version 2, by its rule for the edges alone or for the vertices alone.
+    ReportEdges,
+    ReportVertices,
+}
+
+/// What another rule for the tolerance in effect would answer, of a model of that version.
+fn by_other<T>(of: Version, rule: Rule, ask: impl FnOnce() -> T) -> Option<T> {
+    (version() == of).then(|| ruled(rule, ask))
+}
+
+/// The model with the tolerances in effect in the place of the own ones, of the edges or of the vertices.
+fn settled(model: &Model, names: &Names, edges: bool) -> Model {
+    let plain = original::read(model, names);
+    let precision = *model.precision();
+    let settle = |own: &mut Option<Tolerance>| {
+        let in_effect = own.map(|own| effective_tolerance(Some(own), &precision));
+        *own = original::own(in_effect).expect("one of the two is a tolerance");
+    };
+    let mut other = model.clone();
+    let mut raw = other.raw();
+    if edges {
+        let ids = (0..plain.edges.len()).map(|i| names.edges[i]);
+        ids.for_each(|id| settle(&mut raw.edge_mut(id).expect("an edge").tolerance));
+    } else {
+        let ids = (0..plain.vertices.len()).map(|i| names.vertices[i]);
+        ids.for_each(|id| settle(&mut raw.vertex_mut(id).expect("a vertex").tolerance));
+    }
+    other
 }
 
 /// What a station would say that found fit to saw by another report: with geometry or not, of so many samples, and by what counts.
@@ -93,8 +127,22 @@ fn turned(before: &Lent, edge: usize) -> Vec<(u32, u32)> {
     fins.iter().copied().zip(new).filter(negative).collect()
 }
 
-const WRONGS: [Wrong; 29] = [
+const WRONGS: [Wrong; 40] = [
     ("moves every sum", How::Sums),
+    ("splits a model of version 1 by the larger tolerance", How::SplitBy(Version::First, Rule::Larger)),
+    ("splits a model of version 2 by its own tolerances", How::SplitBy(Version::Second, Rule::Published)),
+    ("splits a model of version 2 by the smaller tolerance", How::SplitBy(Version::Second, Rule::Smaller)),
+    ("reports by the larger tolerance on a model of version 1", How::ReportBy(Version::First, Rule::Larger)),
+    ("reports by its own tolerances on a model of version 2", How::ReportBy(Version::Second, Rule::Published)),
+    ("reports by the smaller tolerance on a model of version 2", How::ReportBy(Version::Second, Rule::Smaller)),
+    ("reports by version 2 for the edges alone", How::ReportEdges),
+    ("reports by version 2 for the vertices alone", How::ReportVertices),
+    ("finds fit to saw a model of version 1 by the larger tolerance", How::FitBy(Version::First, Rule::Larger)),
+    ("finds not fit to saw a model of version 2 by its own tolerances", How::FitBy(Version::Second, Rule::Published)),
+    ("makes a model that it splits one of version 1", How::Split(|_, lent, _, given| {
+        lent.words[VERSION] = 1;
+        Some(given.to_vec())
+    })),
     ("puts every new fin after the old one", How::Split(|before, lent, edge, given| {
         for (old, new) in turned(before, edge) {
             let owner = before.words[before.word_at(5, old as usize)] as usize;
@@ -215,6 +263,14 @@ fn laid(plain: &Plain, random: &mut Random) -> Lent {
     Lent::holding(plain, room, noise.0, noise.1)
 }
 
+/// The memory spoiled so that it cannot be read: 9, whatever is asked. A room above the largest asks for more marks than there can be.
+fn garbage(lent: &Lent, random: &mut Random) -> Option<(Lent, &'static str)> {
+    let mut spoiled = lent.clone();
+    let what = spoil(&mut spoiled, random);
+    let lendable = spoiled.room.iter().zip(LARGEST).all(|(&n, most)| n <= most);
+    (lendable && !spoiled.readable()).then_some((spoiled, what))
+}
+
 /// 01's test 13: slots in the tables and in the lists concerned.
 fn has_slots(plain: &Plain, room: &[usize; 10], edge: usize) -> bool {
     let used = plain.used();
@@ -230,78 +286,6 @@ fn has_slots(plain: &Plain, room: &[usize; 10], edge: usize) -> bool {
             .all(|r| r.wire_edges.len() + listed(&r.wire_edges, &[edge]) <= 256)
 }
 
-/// A plane of one of the edge's faces moved to just about the edge's tolerance, on either side; the
-/// edge's own tolerance is set too.
-fn around_plane(plain: &mut Plain, random: &mut Random) -> Option<usize> {
-    let edge = random.below(plain.edges.len().max(1));
-    let fin = *plain.edges.get(edge)?.fins.first()?;
-    let face = plain.loops.get(plain.fins.get(fin)?.owner)?.face;
-    let surface = plain.faces.get(face)?.surface?;
-    let own = plain.precision * random.pick(&[0.5, 1.0, 3.0, 64.0]);
-    plain.edges[edge].tolerance = Some(own);
-    let times = random.pick(&[
-        1.0 - 1.0e-9,
-        1.0 - 4.0 * f64::EPSILON,
-        1.0 - f64::EPSILON,
-        1.0,
-        1.0 + f64::EPSILON,
-        1.0 + 4.0 * f64::EPSILON,
-        1.0 + 1.0e-9,
-        -1.0,
-        -1.0 - 4.0 * f64::EPSILON,
-    ]);
-    if let Some(Carrier::Plane(o, n)) = plain.surfaces.get_mut(surface) {
-        for (o, n) in o.iter_mut().zip(n) {
-            *o += *n * own * times;
-        }
-    }
-    Some(edge)
-}
-
-/// The ends of a straight edge moved to parameters that are the same number, neighbours or a few floats apart, either way round, near
-/// the line's origin or far from it: about the sign of tests 7 and 8, and under the precision about that of test 10.
-fn around_ends(plain: &mut Plain, random: &mut Random) -> Option<usize> {
-    let edge = random.below(plain.edges.len().max(1));
-    let record = plain.edges.get(edge)?;
-    let (start, end) = (record.start?, record.end?);
-    let Carrier::Line(origin, way) = *plain.curves.get(record.curve?)? else {
-        return None;
-    };
-    let from: f64 = random.pick(&[0.0, 1.0, -3.0, 1.0e6, 1.0995e12]);
-    let mut to = match random.below(3) {
-        0 => from + plain.precision * random.pick(&[0.5, 1.0, 2.0, 3.0]),
-        _ => from,
-    };
-    for _ in 0..random.below(4) {
-        to = to.next_up();
-    }
-    let (a, b) = if random.one_in(2) { (from, to) } else { (to, from) };
-    for (id, t) in [(start, a), (end, b)] {
-        plain.vertices.get_mut(id)?.point = std::array::from_fn(|i| origin[i] + way[i] * t);
-    }
-    Some(edge)
-}
-
-/// A vertex moved off its straight edge by just about the sum of both tolerances, which are set too: about the sign of the off-curve test.
-fn around_curve(plain: &mut Plain, random: &mut Random) -> Option<usize> {
-    let edge = random.below(plain.edges.len().max(1));
-    let record = plain.edges.get_mut(edge)?;
-    let Carrier::Line(_, way) = *plain.curves.get(record.curve?)? else {
-        return None;
-    };
-    let vertex = plain.vertices.get_mut(if random.one_in(2) { record.start? } else { record.end? })?;
-    let [own, edges] = [(); 2].map(|()| plain.precision * random.pick(&[1.0, 0.75, 3.0, 64.0]));
-    (vertex.tolerance, record.tolerance) = (Some(own), Some(edges));
-    let across = (0..3).min_by(|&i, &j| way[i].abs().total_cmp(&way[j].abs()))?;
-    let away: [f64; 3] = std::array::from_fn(|i| f64::from(u8::from(i == across)) - way[across] * way[i]);
-    let size = away.iter().map(|a| a * a).sum::<f64>().sqrt();
-    let times = 1.0 + f64::EPSILON * random.pick(&[-6.0, -3.0, -2.0, -1.0, -0.5, 0.0, 1.0, 2.0, 3.0, 6.0]);
-    for (p, a) in vertex.point.iter_mut().zip(away) {
-        *p += a / size * (own + edges) * times;
-    }
-    Some(edge)
-}
-
 /// Up to 50 splits, one after the other, on both sides.
 fn splits(
     tally: &mut Tally,
@@ -313,8 +297,11 @@ fn splits(
     let mut near = made.near.clone();
     if random.one_in(2) {
         let mut plain = made.plain.clone();
-        let around = random.pick(&[around_plane, around_ends]);
-        if let Some(edge) = around(&mut plain, random)
+        let edge = match random.below(2) {
+            0 => around::plane(&mut plain, random, Own::Made),
+            _ => around::ends(&mut plain, random),
+        };
+        if let Some(edge) = edge
             && let Ok(model) = original::build(&mut plain, names)
         {
             near = vec![edge];
@@ -347,6 +334,17 @@ fn splits(
         if was.numbers != by_sums {
             tally.met("W-205, split", format!("{} was {}", expected.words, was.words));
         }
+        if version() == Version::Second {
+            let first = by(Version::First, || original::split(&mut model.clone(), names, edge, at));
+            if first.numbers != by_sums {
+                tally.met("version 2, splits that version 1 would answer otherwise", format!("{}, not {}", expected.words, first.words));
+            }
+        }
+        let other = match wrong {
+            Some(How::SplitBy(of, rule)) => by_other(of, rule, || original::split(&mut model.clone(), names, edge, at).numbers),
+            Some(How::Sums) => Some(was.numbers),
+            _ => None,
+        };
         if !expected.refused() && !has_slots(&plain, &lent.room, edge) {
             tally.listed("a split without a slot");
             expected.numbers = vec![8];
@@ -360,8 +358,8 @@ fn splits(
         {
             given = other;
         }
-        if matches!(wrong, Some(How::Sums)) && was.numbers != by_sums {
-            given = was.numbers;
+        if let Some(other) = other.filter(|other| *other != by_sums) {
+            given = other;
         }
         tally.same("splits", &expected.numbers, &given, || {
             format!("split {step} of edge {edge} at {at:?}")
@@ -416,6 +414,11 @@ fn boxes(
         }
         tally.same("volumes", &told.numbers, &given, || format!("body {body}"));
     }
+    if let Some((spoiled, what)) = garbage(&lent, random) {
+        let body = random.below(made.plain.bodies.len() + 1);
+        let given = [spoiled.bounding_box(body, 1), spoiled.volume(body, 1)];
+        tally.same("boxes and volumes of garbage", &[vec![9], vec![9]], &given, || what.into());
+    }
 }
 
 /// What W-205 changes of a report: `unchecked` falls, or turns into reason 22.
@@ -430,6 +433,34 @@ fn sums(tally: &mut Tally, was: &[u64], now: &[u64]) {
     };
     let other = if others(was) == others(now) && more >= 0 && fell >= more { "" } else { ", and more than that" };
     tally.met("W-205, report", format!("unchecked {} fewer, reason 22 {more} more{other}", if fell > 3 { "over 3".into() } else { fell.to_string() }));
+}
+
+/// A report as a list of so many places keeps it, and how many faults there are in all.
+fn kept(mut report: Vec<u64>, places: usize) -> (Vec<u64>, usize) {
+    let refused = report[0] != 0;
+    let faults = report.len().saturating_sub(2) / 4;
+    report.truncate(if refused { 1 } else { 2 + 4 * places });
+    (report, if refused { 0 } else { faults })
+}
+
+/// Another report than the Rust's, by a wrong rule for the tolerance in effect.
+fn misreported(
+    wrong: Option<How>,
+    model: &Model,
+    names: &Names,
+    (body, geometry, samples): (usize, bool, usize),
+) -> Option<Vec<u64>> {
+    let report = |model: &Model| original::report(model, names, body, geometry, samples);
+    let other = match wrong? {
+        How::ReportBy(of, rule) => by_other(of, rule, || report(model)),
+        // With what version 2's rule gives as the own tolerances, and by the own ones.
+        How::ReportEdges | How::ReportVertices => {
+            let model = settled(model, names, matches!(wrong, Some(How::ReportEdges)));
+            by_other(Version::Second, Rule::Published, || report(&model))
+        }
+        _ => None,
+    };
+    other?.ok().map(|told| told.numbers)
 }
 
 fn reports(
@@ -457,24 +488,32 @@ fn reports(
                 Ok(was) => sums(tally, &was.numbers, &told.numbers),
                 Err(why) => tally.met("W-205, report", format!("was left out, {why}")),
             }
+            if version() == Version::Second {
+                let first = by(Version::First, || original::report(&made.model, names, body, geometry, samples));
+                if first.is_ok_and(|first| first.numbers != told.numbers) {
+                    tally.met("version 2, reports that version 1 would give otherwise", &told.words);
+                }
+            }
+            let other = misreported(wrong, &made.model, names, (body, geometry, samples));
             let faults = told.numbers.len().saturating_sub(2) / 4;
             let places = match random.below(3) {
                 0 => random.below(faults + 1),
                 1 => faults,
                 _ => faults + random.below(9),
             };
-            let mut expected = told.numbers;
-            let refused = expected[0] != 0;
-            expected.truncate(if refused { 1 } else { 2 + 4 * places });
-            for fault in expected.get(2..).unwrap_or(&[]).chunks(4) {
+            let other = other.filter(|other| *other != told.numbers);
+            let expected = kept(told.numbers, places);
+            for fault in expected.0.get(2..).unwrap_or(&[]).chunks(4) {
                 tally.met("reasons", format!("{:>2}", fault[0]));
             }
-            let total = if refused { 0 } else { faults };
             let mut given = lent.check(body, geometry, samples, places, mark);
             if let Some(How::Report(wrong)) = wrong {
                 given = wrong(&given).unwrap_or(given);
             }
-            tally.same("reports", &(expected, total), &given, || {
+            if let Some(other) = other {
+                given = kept(other, places);
+            }
+            tally.same("reports", &expected, &given, || {
                 format!("body {body}, geometry {geometry}, {samples} samples, {places} places")
             });
         }
@@ -492,22 +531,32 @@ fn reports(
         if was.is_ok_and(|was| was.numbers != told.numbers) {
             tally.met("W-205, verdict", &told.words);
         }
+        if version() == Version::Second {
+            let first = by(Version::First, || original::verdict(&made.model, names, body));
+            if first.is_ok_and(|first| first.numbers != told.numbers) {
+                tally.met("version 2, verdicts that version 1 would give otherwise", &told.words);
+            }
+        }
         let mut given = lent.fit(body, random.bits() as u8);
-        if let Some(How::Fit(wrong)) = wrong {
-            given = wrong(&lent, body, &given).unwrap_or(given);
+        match wrong {
+            Some(How::Fit(wrong)) => given = wrong(&lent, body, &given).unwrap_or(given),
+            Some(How::FitBy(of, rule)) => {
+                let other = by_other(of, rule, || original::verdict(&made.model, names, body));
+                given = other.and_then(Result::ok).map_or(given, |told| told.numbers);
+            }
+            _ => {}
         }
         tally.same("verdicts", &told.numbers, &given, || format!("body {body}"));
     }
-    // Garbage: 9, whatever is asked. A room above the largest asks for more marks than there can be.
-    let mut spoiled = lent.clone();
-    let what = spoil(&mut spoiled, random);
-    if !spoiled.readable() && spoiled.room.iter().zip(LARGEST).all(|(&n, most)| n <= most) {
+    if let Some((spoiled, what)) = garbage(&lent, random) {
         let body = random.below(made.plain.bodies.len() + 1);
         let mut given = spoiled.fit(body, random.bits() as u8);
         if let Some(How::Fit(wrong)) = wrong {
             given = wrong(&spoiled, body, &given).unwrap_or(given);
         }
         tally.same("verdicts of garbage", &vec![9], &given, || what.into());
+        let given = spoiled.check(body, random.one_in(2), random.pick(&[3, 256]), 3, 1);
+        tally.same("reports of garbage", &(vec![9], 0), &given, || what.into());
     }
     // 01's limit: 1, and before 2.
     let body = random.below(made.plain.bodies.len() + 1);
@@ -535,7 +584,7 @@ fn compared(
     }
     if what == "reports" && random.one_in(3) {
         let mut plain = made.plain.clone();
-        if around_curve(&mut plain, &mut random).is_some()
+        if around::curve(&mut plain, &mut random, Own::Made).is_some()
             && let Ok(model) = original::build(&mut plain, names)
         {
             (made.model, made.plain) = (model, plain);
@@ -545,11 +594,30 @@ fn compared(
         "model {number} of seed {seed}: {}",
         made.told.join("; ")
     ));
-    let mut random = Random::new(seed, number, 400);
+    // Then with own tolerances on either side of the session's: every other model of version 2, every fourth of version 1.
+    let again = match number % 4 {
+        0 | 2 => Some(Version::Second),
+        1 => Some(Version::First),
+        _ => None,
+    };
+    let again = again.filter(|_| what != "boxes").and_then(|version| {
+        let mut random = Random::new(seed, number, 401);
+        by(version, || either(&made, names, &mut random))
+    });
+    asked(tally, names, what, made, &mut Random::new(seed, number, 400), wrong);
+    if let Some(made) = again {
+        let version = made.plain.version;
+        tally.met("own tolerances on either side of the session's, by version", version as u32);
+        tally.again(&made.told[0]);
+        by(version, || asked(tally, names, what, made, &mut Random::new(seed, number, 402), wrong));
+    }
+}
+
+fn asked(tally: &mut Tally, names: &Names, what: &str, made: Made, random: &mut Random, wrong: Option<How>) {
     match what {
-        "splits" => splits(tally, names, made, &mut random, wrong),
-        "boxes" => boxes(tally, names, &made, &mut random, wrong),
-        _ => reports(tally, names, &made, &mut random, wrong),
+        "splits" => splits(tally, names, made, random, wrong),
+        "boxes" => boxes(tally, names, &made, random, wrong),
+        _ => reports(tally, names, &made, random, wrong),
     }
 }
 
@@ -558,9 +626,9 @@ fn wrongs(names: &Names, count: u64, seed: u64) -> ExitCode {
     let mut unseen = 0;
     for (what, how) in WRONGS {
         let asked = match how {
-            How::Split(_) | How::Sums => "splits",
+            How::Split(_) | How::Sums | How::SplitBy(..) => "splits",
             How::Box(_) | How::Volume(_) => "boxes",
-            How::Report(_) | How::Fit(_) => "reports",
+            _ => "reports",
         };
         let mut tally = Tally::quiet();
         let mut number = 0;

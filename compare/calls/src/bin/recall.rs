@@ -3,15 +3,17 @@
 
 use calls::layout::{LISTS, Lent};
 use models::original::{self, Names, Told};
-use models::plain::{Body, Carrier, Edge, Face, Fin, Kind, Loop, Plain, Region, Shell, Vertex, bits};
+use models::plain::{Body, Carrier, Edge, Face, Fin, Kind, Loop, Plain, Region, Shell, Version, Vertex, bits};
 use models::random::Random;
-use models::{Sort, fraction, made};
+use models::{Made, Sort, either, fraction, made};
 
 /// The capacities that the program lends.
 const ROOM: [usize; 10] = [4, 8, 8, 24, 24, 128, 64, 64, 64, 24];
 
 const SEED: u64 = 1;
 const MODELS: usize = 160;
+/// How many of them are there once more, of version 2.
+const SECOND: usize = 32;
 
 fn row(op: u32, words: &[u32]) {
     print!("{op:02x}");
@@ -136,6 +138,7 @@ fn stone() -> Plain {
         .map(|i| Fin { owner: i / 4, edge: LOOPS[i / 4][i % 4], positive: i % 4 < 2, pcurve: false })
         .collect();
     Plain {
+        version: Version::First,
         precision: 0.001,
         bodies: vec![Body { kind: Kind::Solid, regions: vec![0, 1] }],
         regions: (0..2).map(|i| Region { body: 0, solid: i == 1, shells: vec![i] }).collect(),
@@ -193,6 +196,24 @@ fn trial(names: &Names) {
     }
 }
 
+/// A model, all that is asked of it, and four splits.
+fn whole(names: &Names, made: &Made, random: &mut Random) {
+    let (mut model, mut plain) = (made.model.clone(), made.plain.clone());
+    let lent = Lent::holding(&plain, ROOM, 0, 0.0);
+    assert!(lent.readable() && LISTS.len() == 8);
+    laid_out(&lent);
+    asked(&model, names, &plain, random);
+    for k in 0..4 {
+        let near = made.near.get(k).copied();
+        let edge = near.unwrap_or_else(|| random.below(plain.edges.len() + 1));
+        let bounds = original::bounds(&model, names, edge);
+        let part = if k == 0 { 0.5 } else { fraction(random, plain.precision, &bounds.numbers) };
+        cut(&mut model, names, edge, part);
+        plain = original::read(&model, names);
+    }
+    checked(&model, names, 0, true, 3);
+}
+
 fn main() {
     let names = Names::new();
     trial(&names);
@@ -201,22 +222,21 @@ fn main() {
         let spare = [0, 0, 0, 0, 0, 32, 4, 4, 0, 0];
         (0..10).all(|k| used[k] + spare[k] <= ROOM[k])
     };
-    let models = (0..).filter_map(|n| made(&names, Sort::Small, SEED, n, None).map(|made| (n, made)));
-    for (n, made) in models.filter(|(_, made)| fits(&made.plain)).take(MODELS) {
-        let mut random = Random::new(SEED, n, 99);
-        let (mut model, mut plain) = (made.model, made.plain);
-        let lent = Lent::holding(&plain, ROOM, 0, 0.0);
-        assert!(lent.readable() && LISTS.len() == 8);
-        laid_out(&lent);
-        asked(&model, &names, &plain, &mut random);
-        for k in 0..4 {
-            let near = made.near.get(k).copied();
-            let edge = near.unwrap_or_else(|| random.below(plain.edges.len() + 1));
-            let bounds = original::bounds(&model, &names, edge);
-            let part = if k == 0 { 0.5 } else { fraction(&mut random, plain.precision, &bounds.numbers) };
-            cut(&mut model, &names, edge, part);
-            plain = original::read(&model, &names);
-        }
-        checked(&model, &names, 0, true, 3);
+    let mut models: Vec<(u64, Made)> = (0..)
+        .filter_map(|n| made(&names, Sort::Small, SEED, n, None).map(|made| (n, made)))
+        .filter(|(_, made)| fits(&made.plain))
+        .take(MODELS)
+        .collect();
+    for (n, made) in &models {
+        whole(&names, made, &mut Random::new(SEED, *n, 99));
     }
+    models.truncate(SECOND);
+    original::by(Version::Second, || {
+        for (n, made) in &models {
+            let mut random = Random::new(SEED, *n, 97);
+            if let Some(made) = either(made, &names, &mut random) {
+                whole(&names, &made, &mut random);
+            }
+        }
+    });
 }

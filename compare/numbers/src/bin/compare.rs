@@ -146,7 +146,7 @@ fn no_operation(noise: &mut Random) -> Tally {
         number: NO_OPERATION,
         values: [0.0; 6],
     };
-    for op in [OPERATIONS.len() as u32, 35, 255, 65536, 1 << 31, u32::MAX] {
+    for op in [OPERATIONS.len() as u32, 36, 255, 65536, 1 << 31, u32::MAX] {
         let operands = [(); 12].map(|()| noise.float(Style::Mixed));
         let given = ours(op, &operands);
         tally.rows += 1;

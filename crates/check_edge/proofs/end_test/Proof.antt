@@ -21,23 +21,22 @@ returns c = noted-same (sym (end-missing (decode (c .before .before .before .bef
 vertex-at-requires : tie.Need-vertex-at-requires
 vertex-at-requires c κs = search needs
 
-shared-slice-read-effective-tolerance : tie.Need-shared-slice-read-effective-tolerance
-shared-slice-read-effective-tolerance c = omega (arith, precision-there _ _ _ (c .before .before .before .before .before .before .before .pre .0))
-
-effective-tolerance-requires : tie.Need-effective-tolerance-requires
-effective-tolerance-requires c κs = search needs
+in-effect-requires : tie.Need-in-effect-requires
+in-effect-requires c κs =
+    let s = c .before .before .before .before .before .before in
+    (counts-there _ _ _ (s .pre .0), precision-there _ _ _ (s .pre .0))
 
 end-at-requires : tie.Need-end-at-requires
 unfolding decode
-end-at-requires c κs = enough-same (end-there (decode (c .before .before .before .before .before .before .before .before .before .args .room .now) (c .before .before .before .before .before .before .before .before .before .args .words .now) (c .before .before .before .before .before .before .before .before .before .args .reals .now)) (c .before .before .before .before .before .before .before .before .before .args .curve) (c .before .before .before .before .before .before .before .before .before .args .surface) (c .before .before .before .before .before .before .before .before .before .args .tol) (c .before .before .before .before .before .before .before .before .before .args .e) (c .before .before .before .before .before .before .before .before .before .args .v) _ _ (lt-ltb _ _ (c .before .before .before .before .if1 .left)) (c .before .before .before .vertex-at .ensures) (c .before .effective-tolerance .ensures)) (c .before .before .before .before .before .before .before .before .before .pre .1)
+end-at-requires c κs = enough-same (end-there (decode (c .before .before .before .before .before .before .before .before .args .room .now) (c .before .before .before .before .before .before .before .before .args .words .now) (c .before .before .before .before .before .before .before .before .args .reals .now)) (c .before .before .before .before .before .before .before .before .args .curve) (c .before .before .before .before .before .before .before .before .args .surface) (c .before .before .before .before .before .before .before .before .args .tol) (c .before .before .before .before .before .before .before .before .args .e) (c .before .before .before .before .before .before .before .before .args .v) _ _ (lt-ltb _ _ (c .before .before .before .if1 .left)) (c .before .before .vertex-at .ensures) (c .before .in-effect .ensures)) (c .before .before .before .before .before .before .before .before .pre .1)
 
 same-length : tie.Need-same-length
 same-length c = search needs
 
 returns-2 : tie.Need-returns-2
 unfolding decode
-returns-2 c = noted-same (sym (end-there (decode (c .before .before .before .before .before .before .before .before .before .before .before .before .args .room .now) (c .before .before .before .before .before .before .before .before .before .before .before .before .args .words .now) (c .before .before .before .before .before .before .before .before .before .before .before .before .args .reals .now)) (c .before .before .before .before .before .before .before .before .before .before .before .before .args .curve) (c .before .before .before .before .before .before .before .before .before .before .before .before .args .surface) (c .before .before .before .before .before .before .before .before .before .before .before .before .args .tol) (c .before .before .before .before .before .before .before .before .before .before .before .before .args .e) (c .before .before .before .before .before .before .before .before .before .before .before .before .args .v) _ _ (lt-ltb _ _ (c .before .before .before .before .before .before .before .if1 .left)) (c .before .before .before .before .before .before .vertex-at .ensures) (c .before .before .before .before .effective-tolerance .ensures))) (c .before .before .end-at .ensures)
+returns-2 c = noted-same (sym (end-there (decode (c .before .before .before .before .before .before .before .before .before .before .before .args .room .now) (c .before .before .before .before .before .before .before .before .before .before .before .args .words .now) (c .before .before .before .before .before .before .before .before .before .before .before .args .reals .now)) (c .before .before .before .before .before .before .before .before .before .before .before .args .curve) (c .before .before .before .before .before .before .before .before .before .before .before .args .surface) (c .before .before .before .before .before .before .before .before .before .before .before .args .tol) (c .before .before .before .before .before .before .before .before .before .before .before .args .e) (c .before .before .before .before .before .before .before .before .before .before .before .args .v) _ _ (lt-ltb _ _ (c .before .before .before .before .before .before .if1 .left)) (c .before .before .before .before .before .vertex-at .ensures) (c .before .before .before .before .in-effect .ensures))) (c .before .before .end-at .ensures)
 
 pub end-test-spec : {M : Type 1} → statement M
 end-test-spec =
-    tie.close (tie.spec shared-slice-read-if1 returns vertex-at-requires shared-slice-read-effective-tolerance effective-tolerance-requires end-at-requires same-length returns-2)
+    tie.close (tie.spec shared-slice-read-if1 returns vertex-at-requires in-effect-requires end-at-requires same-length returns-2)

@@ -11,14 +11,14 @@ use Rattle.check_manifold.proofs.same_senses.Statement.{statement}
 use Rattle.check_manifold.proofs.same_senses.Tie as tie
 
 shared-slice-read-if1 : tie.Need-shared-slice-read-if1
-shared-slice-read-if1 c = omega (arith, (le-trans (before-tables 10 wordStrides (c .before .before .args .room .now) 10) (c .before .before .pre .words)))
+shared-slice-read-if1 c = omega (arith, (le-trans (before-tables 11 wordStrides (c .before .before .args .room .now) 10) (c .before .before .pre .words)))
 
 returns : tie.Need-returns
 unfolding decode
 returns c = λ x. alike-first-not (decode (c .before .before .before .args .room .now) (c .before .before .before .args .words .now) x) (c .before .before .before .args .i) (c .before .before .before .args .j) (le-ltb _ _ (c .if1 .taken))
 
 shared-slice-read-if2 : tie.Need-shared-slice-read-if2
-shared-slice-read-if2 c = omega (arith, (le-trans (before-tables 10 wordStrides (c .before .before .before .before .args .room .now) 10) (c .before .before .before .before .pre .words)))
+shared-slice-read-if2 c = omega (arith, (le-trans (before-tables 11 wordStrides (c .before .before .before .before .args .room .now) 10) (c .before .before .before .before .pre .words)))
 
 returns-2 : tie.Need-returns-2
 unfolding decode

@@ -10,7 +10,7 @@ use Rattle.check_open_loop.proofs.readable_fin.Statement.{statement}
 use Rattle.check_open_loop.proofs.readable_fin.Tie as tie
 
 shared-slice-read-if1 : tie.Need-shared-slice-read-if1
-shared-slice-read-if1 c = omega (arith, (le-trans (before-tables 10 wordStrides (c .before .before .args .room .now) 10) (c .before .before .pre .words)))
+shared-slice-read-if1 c = omega (arith, (le-trans (before-tables 11 wordStrides (c .before .before .args .room .now) 10) (c .before .before .pre .words)))
 
 returns : tie.Need-returns
 unfolding decode
@@ -20,7 +20,7 @@ fin-at-requires : tie.Need-fin-at-requires
 fin-at-requires c κs = (c .before .before .before .pre, c .if1 .left)
 
 shared-slice-read-result : tie.Need-shared-slice-read-result
-shared-slice-read-result c = omega (arith, (le-trans (before-tables 10 wordStrides (c .before .before .before .before .before .args .room .now) 10) (c .before .before .before .before .before .pre .words)))
+shared-slice-read-result c = omega (arith, (le-trans (before-tables 11 wordStrides (c .before .before .before .before .before .args .room .now) 10) (c .before .before .before .before .before .pre .words)))
 
 returns-2 : tie.Need-returns-2
 unfolding decode

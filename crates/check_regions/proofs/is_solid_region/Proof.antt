@@ -10,7 +10,7 @@ use Rattle.check_regions.proofs.is_solid_region.Statement.{statement}
 use Rattle.check_regions.proofs.is_solid_region.Tie as tie
 
 shared-slice-read-if1 : tie.Need-shared-slice-read-if1
-shared-slice-read-if1 c = omega (arith, le-trans (before-tables 10 wordStrides (c .before .before .args .room .now) 10) (c .before .before .pre .words))
+shared-slice-read-if1 c = omega (arith, le-trans (before-tables 11 wordStrides (c .before .before .args .room .now) 10) (c .before .before .pre .words))
 
 returns : tie.Need-returns
 unfolding decode

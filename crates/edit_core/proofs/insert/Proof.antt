@@ -47,7 +47,7 @@ slice-read-used c =
     let z : insertNumber room w x (s .args .ok) (s .args .k) ≡ 0 = sym (c .before .before .insert-refusal .ensures) ∙ c .before .if1 .left in
     let got = insert-open room w x (s .args .ok) (s .args .k) z in
     let l = got .0 .sized .words in
-    let b = before-tables 10 wordStrides room 10 in
+    let b = before-tables 11 wordStrides room 10 in
     omega (arith, s .pre .table)
 
 cast-put-new : tie.Need-cast-put-new
@@ -101,7 +101,7 @@ slice-write-words c =
     let z : insertNumber room w x (s .args .ok) (s .args .k) ≡ 0 = sym (c .before .before .before .before .before .before .before .before .before .before .insert-refusal .ensures) ∙ c .before .before .before .before .before .before .before .before .before .if1 .left in
     let got = insert-open room w x (s .args .ok) (s .args .k) z in
     let l = got .0 .sized .words in
-    let b = before-tables 10 wordStrides room 10 in
+    let b = before-tables 11 wordStrides room 10 in
     omega (arith, s .pre .table)
 
 same-length-3 : tie.Need-same-length-3

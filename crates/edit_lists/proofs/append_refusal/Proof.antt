@@ -59,7 +59,7 @@ shared-slice-read-if3 c =
     let e : readable room w x ≡ true = sym (c .before .before .before .before .readable .ensures) ∙ not-false (c .before .before .before .before .readable .result) (c .before .before .before .if1 .left) in
     let t = list-table j (c .before .before .if2 .left) in
     let z = fit-of room w x e .sized .words in
-    let b = before-tables 10 wordStrides room 10 in
+    let b = before-tables 11 wordStrides room 10 in
     let q = c .before .list-table .ensures in
     omega arith
 

@@ -1,11 +1,9 @@
 -- `edit_make::make` meets its contract: a refusal writes nothing. Assumes nothing.
 use native.Mathlib.Omega.{arith}
-use mathlib.Core.Path.{_≡_, sym, ap, _∙_}
-use Rattle.memory_layout.specs.Layout.{wordStrides, realStrides}
-use Rattle.memory_layout.specs.Laws.{before-tables}
-use mathlib.Core.List.{_++_}
-use lib.ListN.{length, take, drop, replicate}
-use lib.Seq.{length-take-le, set-split}
+use mathlib.Core.Path.{_≡_, sym, _∙_}
+use Rattle.memory_layout.specs.Layout.{realStrides}
+use Rattle.memory_layout.specs.Laws.{before-tables, version-there}
+use lib.Seq.{set-split}
 use Rattle.memory_writes.specs.Put.{over}
 use Rattle.memory_writes.specs.Kept.{refused-keeps}
 use Rattle.edit_make.specs.Answers.{makeNumber, makeWords, makeReals}
@@ -30,40 +28,29 @@ returns c =
     let n = c .before .make-refusal .result in
     (e, (rw (← e) (refused-keeps n _ _ (c .if1 .taken)), rw (← e) (refused-keeps n _ _ (c .if1 .taken))))
 
-slice-relend-prefix-clear : tie.Need-slice-relend-prefix-clear
-slice-relend-prefix-clear c =
-    let s = c .before .before .before .before .before .before in
+slice-aggregate-write-words : tie.Need-slice-aggregate-write-words
+slice-aggregate-write-words c = search needs
+
+write-words-requires : tie.Need-write-words-requires
+write-words-requires c κs =
+    let s = c .before .before .before .before .before .before .before .before in
     let room = s .args .room .now in
     let w = s .args .words .now in
     let x = s .args .reals .now in
-    let z : makeNumber room w x (s .args .precision) ≡ 0 = sym (c .before .make-refusal .ensures) ∙ c .if1 .left in
-    let l = make-open room w x (s .args .precision) z .words in
-    let b = before-tables 10 wordStrides room 10 in
-    omega arith
-
-slice-aggregate-clear : tie.Need-slice-aggregate-clear
-slice-aggregate-clear c =
-    let s = c .before .before .before .before .before .before .before in
-    let room = s .args .room .now in
-    let w = s .args .words .now in
-    let x = s .args .reals .now in
-    let z : makeNumber room w x (s .args .precision) ≡ 0 = sym (c .before .before .make-refusal .ensures) ∙ c .before .if1 .left in
-    let l = make-open room w x (s .args .precision) z .words in
-    let b = before-tables 10 wordStrides room 10 in
-    sym (length-take-le 10 w (omega arith))
-
-clear-requires : tie.Need-clear-requires
-clear-requires c κs = search needs
+    let z : makeNumber room w x (s .args .precision) (s .args .version) ≡ 0 = sym (c .before .before .before .make-refusal .ensures) ∙ c .before .before .if1 .left in
+    let a = make-open room w x (s .args .precision) (s .args .version) z in
+    version-there room w (a .words)
 
 slice-write-reals : tie.Need-slice-write-reals
 slice-write-reals c =
-    let s = c .before .before .before .before .before .before .before .before .before .before in
+    let s = c .before .before .before .before .before .before .before .before .before .before .before in
     let room = s .args .room .now in
     let w = s .args .words .now in
     let x = s .args .reals .now in
-    let z : makeNumber room w x (s .args .precision) ≡ 0 = sym (c .before .before .before .before .before .make-refusal .ensures) ∙ c .before .before .before .before .if1 .left in
-    let l = make-open room w x (s .args .precision) z .reals in
-    let b = before-tables 1 realStrides room 10 in
+    let z : makeNumber room w x (s .args .precision) (s .args .version) ≡ 0 = sym (c .before .before .before .before .before .before .make-refusal .ensures) ∙ c .before .before .before .before .before .if1 .left in
+    let a = make-open room w x (s .args .precision) (s .args .version) z in
+    let m = a .reals in
+    let d = before-tables 1 realStrides room 10 in
     omega arith
 
 same-length-3 : tie.Need-same-length-3
@@ -75,18 +62,15 @@ same-length-4 c = search needs
 returns-2 : tie.Need-returns-2
 unfolding makeWords makeReals over
 returns-2 c =
-    let s = c .before .before .before .before .before .before .before .before .before .before in
+    let s = c .before .before .before .before .before .before .before .before .before .before .before in
     let room = s .args .room .now in
     let w = s .args .words .now in
     let x = s .args .reals .now in
-    let z : makeNumber room w x (s .args .precision) ≡ 0 = sym (c .before .before .before .before .before .make-refusal .ensures) ∙ c .before .before .before .before .if1 .left in
-    let a = make-open room w x (s .args .precision) z in
-    let l = a .words in
+    let z : makeNumber room w x (s .args .precision) (s .args .version) ≡ 0 = sym (c .before .before .before .before .before .before .make-refusal .ensures) ∙ c .before .before .before .before .before .if1 .left in
+    let a = make-open room w x (s .args .precision) (s .args .version) z in
     let m = a .reals in
-    let b = before-tables 10 wordStrides room 10 in
     let d = before-tables 1 realStrides room 10 in
-    let t : length (take 10 w) ≡ 10 = length-take-le 10 w (omega arith) in
-    (sym z, (rw z (ap (λ k. k ++ drop 10 w) (c .before .before .clear .ensures ∙ ap (λ n. replicate n 0) t)), rw z (set-split x 0 (s .args .precision) (omega arith))))
+    (sym z, (rw z (c .before .before .write-words .ensures), rw z (set-split x 0 (s .args .precision) (omega arith))))
 
 pub make-spec : {M : Type 1} → statement M
 make-spec =
@@ -96,9 +80,8 @@ make-spec =
     same-length
     same-length-2
     returns
-    slice-relend-prefix-clear
-    slice-aggregate-clear
-    clear-requires
+    slice-aggregate-write-words
+    write-words-requires
     slice-write-reals
     same-length-3
     same-length-4

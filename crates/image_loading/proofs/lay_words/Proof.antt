@@ -26,7 +26,7 @@ word-stride-requires c κs = search needs
 add-end : tie.Need-add-end
 add-end c =
     let s = c .before .before .before .before in
-    let n = record-inside 10 wordStrides (s .args .room .now) (s .args .k) (s .args .i) (s .pre .1 .0 .table) (s .pre .1 .0 .slot) in
+    let n = record-inside 11 wordStrides (s .args .room .now) (s .args .k) (s .args .i) (s .pre .1 .0 .table) (s .pre .1 .0 .slot) in
     let e = c .before .word-at .ensures in
     let f = c .word-stride .ensures in
     record { fits = omega (arith, s .pre .1 .0 .enough) }
@@ -34,7 +34,7 @@ add-end c =
 mul-load-words : tie.Need-mul-load-words
 mul-load-words c =
     let s = c .before .before .before .before in
-    let n = record-inside 10 wordStrides (s .args .room .now) (s .args .k) (s .args .i) (s .pre .1 .0 .table) (s .pre .1 .0 .slot) in
+    let n = record-inside 11 wordStrides (s .args .room .now) (s .args .k) (s .args .i) (s .pre .1 .0 .table) (s .pre .1 .0 .slot) in
     let e = c .before .word-at .ensures in
     let f = c .word-stride .ensures in
     record { fits = omega (arith, s .pre .1 .0 .enough) }
@@ -48,7 +48,7 @@ part-load-words-start c = search needs
 part-load-words-end : tie.Need-part-load-words-end
 part-load-words-end c =
     let s = c .before .before .before .before in
-    let n = record-inside 10 wordStrides (s .args .room .now) (s .args .k) (s .args .i) (s .pre .1 .0 .table) (s .pre .1 .0 .slot) in
+    let n = record-inside 11 wordStrides (s .args .room .now) (s .args .k) (s .args .i) (s .pre .1 .0 .table) (s .pre .1 .0 .slot) in
     let e = c .before .word-at .ensures in
     let f = c .word-stride .ensures in
     omega (arith, s .pre .1 .0 .enough)

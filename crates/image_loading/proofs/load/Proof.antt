@@ -21,19 +21,19 @@ use Rattle.image_loading.proofs.load.Tie as tie
 slice-relend-prefix-get-words : tie.Need-slice-relend-prefix-get-words
 slice-relend-prefix-get-words c =
     let s = c .before .before .before in
-    let needed = before-tables 10 wordStrides (s .args .room .now) 10 in
+    let needed = before-tables 11 wordStrides (s .args .room .now) 10 in
     omega (arith, s .pre .lent .words)
 
 slice-aggregate-get-words : tie.Need-slice-aggregate-get-words
 slice-aggregate-get-words c =
     let s = c .before .before .before .before in
-    let needed = before-tables 10 wordStrides (s .args .room .now) 10 in
+    let needed = before-tables 11 wordStrides (s .args .room .now) 10 in
     sym (length-take-le 10 (s .args .words .now) (omega (arith, s .pre .lent .words)))
 
 get-words-requires : tie.Need-get-words-requires
 get-words-requires c κs =
     let s = c .before .before .before .before in
-    let needed = before-tables 10 wordStrides (s .args .room .now) 10 in
+    let needed = before-tables 11 wordStrides (s .args .room .now) 10 in
     let long = length-take-le 10 (s .args .words .now) (omega (arith, s .pre .lent .words)) in
     omega (arith, s .pre .head)
 
@@ -63,7 +63,7 @@ load-tables-requires c κs =
     let w = s .args .words .now in
     let x = s .args .reals .now in
     let b = s .args .bytes .now in
-    let ten = before-tables 10 wordStrides room 10 in
+    let ten = before-tables 11 wordStrides room 10 in
     let one = before-tables 1 realStrides room 10 in
     let ten-long : length (take 10 w) ≡ 10 = length-take-le 10 w (omega (arith, s .pre .lent .words)) in
     let one-long : length (take 1 x) ≡ 1 = length-take-le 1 x (omega (arith, s .pre .lent .reals)) in
@@ -89,7 +89,7 @@ returns c =
     let w = s .args .words .now in
     let x = s .args .reals .now in
     let b = s .args .bytes .now in
-    let ten = before-tables 10 wordStrides room 10 in
+    let ten = before-tables 11 wordStrides room 10 in
     let one = before-tables 1 realStrides room 10 in
     let ten-long : length (take 10 w) ≡ 10 = length-take-le 10 w (omega (arith, s .pre .lent .words)) in
     let one-long : length (take 1 x) ≡ 1 = length-take-le 1 x (omega (arith, s .pre .lent .reals)) in

@@ -25,8 +25,8 @@ returns c =
     let e : readable room w x ≡ false = sym (c .before .readable .ensures) ∙ not-true (c .before .readable .result) (c .if1 .taken) in
     rw e
 
-tables-length-requires : tie.Need-tables-length-requires
-tables-length-requires c κs =
+whole-length-requires : tie.Need-whole-length-requires
+whole-length-requires c κs =
     let s = c .before .before .before .before in
     let room = s .args .room .now in
     let w = s .args .words .now in
@@ -42,7 +42,7 @@ returns-2 c =
     let w = s .args .words .now in
     let x = s .args .reals .now in
     let e : readable room w x ≡ true = sym (c .before .before .readable .ensures) ∙ not-false (c .before .before .readable .result) (c .before .if1 .left) in
-    rw e (ap Is (c .tables-length .ensures ∙ sym (image-long room w x (fit-of room w x e))))
+    rw e (ap Is (c .whole-length .ensures ∙ sym (image-long room w x (fit-of room w x e))))
 
 pub image-length-spec : {M : Type 1} → statement M
-image-length-spec = tie.close (tie.spec readable-requires returns tables-length-requires returns-2)
+image-length-spec = tie.close (tie.spec readable-requires returns whole-length-requires returns-2)

@@ -1,4 +1,5 @@
 -- `image_writer::write_precision` meets its contract. Assumes nothing.
+use Prim.Native.Nat.{_+_}
 use native.Mathlib.Omega.{arith}
 use mathlib.Core.Path.{sym, ap, _∙_}
 use lib.ListN.{take}
@@ -13,6 +14,9 @@ use Rattle.image_writer.proofs.write_precision.Tie as tie
 put-mark-requires : tie.Need-put-mark-requires
 put-mark-requires c κs = search needs
 
+add-put-words : tie.Need-add-put-words
+add-put-words c = search needs
+
 slice-aggregate-put-words : tie.Need-slice-aggregate-put-words
 slice-aggregate-put-words c =
     let s = c .before .before .before .before .before .before .before .before .before in
@@ -23,6 +27,9 @@ put-words-requires c κs =
     let s = c .before .before .before .before .before .before .before .before .before in
     let l = length-take-le 10 (s .args .words .now) (s .pre .0) in
     omega (arith, s .pre .2)
+
+add-put-floats : tie.Need-add-put-floats
+add-put-floats c = search needs
 
 slice-aggregate-put-floats : tie.Need-slice-aggregate-put-floats
 slice-aggregate-put-floats c =
@@ -44,8 +51,8 @@ returns c =
     let w = s .args .words .now in
     let x = s .args .reals .now in
     c .before .before .put-floats .ensures
-    ∙ ap (over 42 (floats (take 1 x))) (c .before .before .before .before .before .before .before .put-words .ensures ∙ ap (over 2 (words (take 10 w))) (c .before .before .before .before .before .before .before .before .before .before .before .before .put-mark .ensures))
-    ∙ precision-written w x (s .pre .0) (s .pre .1) (s .args .bytes .now) (s .pre .2)
+    ∙ ap (over (s .args .at + 42) (floats (take 1 x))) (c .before .before .before .before .before .before .before .put-words .ensures ∙ ap (over (s .args .at + 2) (words (take 10 w))) (c .before .before .before .before .before .before .before .before .before .before .before .before .put-mark .ensures))
+    ∙ precision-written w x (s .pre .0) (s .pre .1) (s .args .at) (s .args .bytes .now) (s .pre .2)
 
 pub write-precision-spec : {M : Type 1} → statement M
-write-precision-spec = tie.close (tie.spec put-mark-requires slice-aggregate-put-words put-words-requires slice-aggregate-put-floats put-floats-requires same-length returns)
+write-precision-spec = tie.close (tie.spec put-mark-requires add-put-words slice-aggregate-put-words put-words-requires add-put-floats slice-aggregate-put-floats put-floats-requires same-length returns)

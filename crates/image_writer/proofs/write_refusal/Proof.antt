@@ -28,8 +28,8 @@ returns c =
     let e : readable room w x ≡ false = sym (c .before .readable .ensures) ∙ not-true (c .before .readable .result) (c .if1 .taken) in
     rw e
 
-tables-length-requires : tie.Need-tables-length-requires
-tables-length-requires c κs =
+whole-length-requires : tie.Need-whole-length-requires
+whole-length-requires c κs =
     let s = c .before .before .before .before .before in
     let room = s .args .room .now in
     let w = s .args .words .now in
@@ -45,7 +45,7 @@ returns-2 c =
     let w = s .args .words .now in
     let x = s .args .reals .now in
     let e : readable room w x ≡ true = sym (c .before .before .before .readable .ensures) ∙ not-false (c .before .before .before .readable .result) (c .before .before .if1 .left) in
-    let l = c .before .tables-length .ensures ∙ sym (image-long room w x (fit-of room w x e)) in
+    let l = c .before .whole-length .ensures ∙ sym (image-long room w x (fit-of room w x e)) in
     let f : leb (length (imageOf (decode room w x))) (length (s .args .bytes .now)) ≡ false = lt-leb _ _ (rw l at (c .if2 .taken)) in
     rw (e, f)
 
@@ -57,9 +57,9 @@ returns-3 c =
     let w = s .args .words .now in
     let x = s .args .reals .now in
     let e : readable room w x ≡ true = sym (c .before .before .before .readable .ensures) ∙ not-false (c .before .before .before .readable .result) (c .before .before .if1 .left) in
-    let l = c .before .tables-length .ensures ∙ sym (image-long room w x (fit-of room w x e)) in
+    let l = c .before .whole-length .ensures ∙ sym (image-long room w x (fit-of room w x e)) in
     let f : leb (length (imageOf (decode room w x))) (length (s .args .bytes .now)) ≡ true = le-leb _ _ (rw l at (c .if2 .left)) in
     rw (e, f)
 
 pub write-refusal-spec : {M : Type 1} → statement M
-write-refusal-spec = tie.close (tie.spec readable-requires returns tables-length-requires returns-2 returns-3)
+write-refusal-spec = tie.close (tie.spec readable-requires returns whole-length-requires returns-2 returns-3)

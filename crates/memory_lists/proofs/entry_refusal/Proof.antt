@@ -65,7 +65,7 @@ shared-slice-read-if3 c =
     let e : readable r w x ≡ true = sym (c .before .before .before .readable .ensures) ∙ not-false (c .before .before .before .readable .result) (c .before .before .if1 .left) in
     let t = list-table j (c .before .if2 .left) in
     let z = fit-of r w x e .sized .words in
-    let f = before-tables 10 wordStrides r 10 in
+    let f = before-tables 11 wordStrides r 10 in
     omega arith
 
 cast-if3 : tie.Need-cast-if3

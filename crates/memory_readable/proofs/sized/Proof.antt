@@ -27,7 +27,7 @@ counts-ok-requires c κs =
     let r = s .args .room .now in
     let a = sym (c .before .lent-ok .ensures) ∙ not-false (c .before .lent-ok .result) (c .if1 .left) in
     let b = lent-of r (s .args .words .now) (s .args .reals .now) a .words in
-    let f = before-tables 10 wordStrides r 10 in
+    let f = before-tables 11 wordStrides r 10 in
     omega arith
 
 returns-2 : tie.Need-returns-2

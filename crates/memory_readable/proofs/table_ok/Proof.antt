@@ -14,7 +14,7 @@ mul-n c = search needs
 shared-slice-read-n : tie.Need-shared-slice-read-n
 shared-slice-read-n c =
     let s = c .before .before .before in
-    let b = before-tables 10 wordStrides (s .args .room .now) 10 in
+    let b = before-tables 11 wordStrides (s .args .room .now) 10 in
     omega (arith, s .pre .0 .words)
 
 cast-n : tie.Need-cast-n

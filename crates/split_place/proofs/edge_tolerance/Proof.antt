@@ -4,6 +4,7 @@ use native.Mathlib.Omega.{arith}
 use mathlib.Core.Path.{_≡_, ap, _∙_}
 use lib.ListN.{length}
 use Rattle.memory_layout.specs.Decode.{decode}
+use Rattle.memory_records.specs.Laws.{counts-there}
 use Rattle.memory_layout.specs.Laws.{used-inside, words-length, reals-length, precision-there}
 use Rattle.split_place.specs.Place.{toleranceAt}
 use Rattle.split_place.proofs.edge_tolerance.Statement.{statement}
@@ -34,15 +35,14 @@ shared-slice-read-tolerance-of-2 c =
 tolerance-of-requires : tie.Need-tolerance-of-requires
 tolerance-of-requires c κs = search needs
 
-shared-slice-read-effective-tolerance : tie.Need-shared-slice-read-effective-tolerance
-shared-slice-read-effective-tolerance c = let s = c .before .before .before .before .before .before .before .before in let n = precision-there (s .args .room .now) (s .args .words .now) (s .args .reals .now) (s .pre .0) in omega arith
-
-effective-tolerance-requires : tie.Need-effective-tolerance-requires
-effective-tolerance-requires c κs = search needs
+in-effect-requires : tie.Need-in-effect-requires
+in-effect-requires c κs =
+    let s = c .before .before .before .before .before .before .before in
+    (counts-there (s .args .room .now) (s .args .words .now) (s .args .reals .now) (s .pre .0), precision-there (s .args .room .now) (s .args .words .now) (s .args .reals .now) (s .pre .0))
 
 returns : tie.Need-returns
 unfolding toleranceAt decode
-returns c = rw (c .effective-tolerance .ensures, c .before .before .tolerance-of .ensures, c .before .before .before .before .before .reals-of .ensures, c .before .before .before .before .before .before .words-of .ensures)
+returns c = rw (c .in-effect .ensures, c .before .tolerance-of .ensures, c .before .before .before .before .reals-of .ensures, c .before .before .before .before .before .words-of .ensures)
 
 pub edge-tolerance-spec : {M : Type 1} → statement M
 edge-tolerance-spec =
@@ -53,6 +53,5 @@ edge-tolerance-spec =
     shared-slice-read-tolerance-of
     shared-slice-read-tolerance-of-2
     tolerance-of-requires
-    shared-slice-read-effective-tolerance
-    effective-tolerance-requires
+    in-effect-requires
     returns)

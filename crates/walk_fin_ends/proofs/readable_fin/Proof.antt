@@ -15,7 +15,7 @@ use Rattle.walk_fin_ends.proofs.readable_fin.Tie as tie
 shared-slice-read-if1 : tie.Need-shared-slice-read-if1
 shared-slice-read-if1 c =
     let s = c .before .before in
-    let b = before-tables 10 wordStrides (s .args .room .now) 10 in
+    let b = before-tables 11 wordStrides (s .args .room .now) 10 in
     omega (arith, s .pre .words)
 
 cast-if1 : tie.Need-cast-if1
@@ -34,7 +34,7 @@ fin-at-requires c κs = search needs
 shared-slice-read-result : tie.Need-shared-slice-read-result
 shared-slice-read-result c =
     let s = c .before .before .before .before .before in
-    let b = before-tables 10 wordStrides (s .args .room .now) 10 in
+    let b = before-tables 11 wordStrides (s .args .room .now) 10 in
     omega (arith, s .pre .words)
 
 returns-2 : tie.Need-returns-2

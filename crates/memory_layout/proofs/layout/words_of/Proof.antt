@@ -18,7 +18,7 @@ add-end : tie.Need-add-end
 add-end c =
     let s = c .before .before .before in
     let r = s .args .room .now in
-    let n = record-inside 10 wordStrides r (s .args .k) (s .args .i) (s .pre .1 .table) (s .pre .1 .slot) in
+    let n = record-inside 11 wordStrides r (s .args .k) (s .args .i) (s .pre .1 .table) (s .pre .1 .slot) in
     let e = c .before .word-at .ensures in
     let f = c .word-stride .ensures in
     record { fits = omega (arith, s .pre .1 .enough) }
@@ -27,7 +27,7 @@ mul-result : tie.Need-mul-result
 mul-result c =
     let s = c .before .before .before in
     let r = s .args .room .now in
-    let n = record-inside 10 wordStrides r (s .args .k) (s .args .i) (s .pre .1 .table) (s .pre .1 .slot) in
+    let n = record-inside 11 wordStrides r (s .args .k) (s .args .i) (s .pre .1 .table) (s .pre .1 .slot) in
     let e = c .before .word-at .ensures in
     let f = c .word-stride .ensures in
     record { fits = omega (arith, s .pre .1 .enough) }
@@ -42,7 +42,7 @@ part-result-end : tie.Need-part-result-end
 part-result-end c =
     let s = c .before .before .before in
     let r = s .args .room .now in
-    let n = record-inside 10 wordStrides r (s .args .k) (s .args .i) (s .pre .1 .table) (s .pre .1 .slot) in
+    let n = record-inside 11 wordStrides r (s .args .k) (s .args .i) (s .pre .1 .table) (s .pre .1 .slot) in
     let e = c .before .word-at .ensures in
     let f = c .word-stride .ensures in
     omega (arith, s .pre .1 .enough)

@@ -21,7 +21,7 @@ word-stride-requires c κs = search needs
 add-end : tie.Need-add-end
 add-end c =
     let s = c .before .before .before .before in
-    let n = record-inside 10 wordStrides (s .args .room .now) (s .args .k) (s .args .i) (s .pre .1 .0 .table) (s .pre .1 .0 .slot) in
+    let n = record-inside 11 wordStrides (s .args .room .now) (s .args .k) (s .args .i) (s .pre .1 .0 .table) (s .pre .1 .0 .slot) in
     let e = c .before .word-at .ensures in
     let f = c .word-stride .ensures in
     record { fits = omega (arith, s .pre .1 .0 .enough) }
@@ -29,7 +29,7 @@ add-end c =
 mul-write-new : tie.Need-mul-write-new
 mul-write-new c =
     let s = c .before .before .before .before in
-    let n = record-inside 10 wordStrides (s .args .room .now) (s .args .k) (s .args .i) (s .pre .1 .0 .table) (s .pre .1 .0 .slot) in
+    let n = record-inside 11 wordStrides (s .args .room .now) (s .args .k) (s .args .i) (s .pre .1 .0 .table) (s .pre .1 .0 .slot) in
     let e = c .before .word-at .ensures in
     let f = c .word-stride .ensures in
     record { fits = omega (arith, s .pre .1 .0 .enough) }
@@ -43,7 +43,7 @@ part-write-new-start c = search needs
 part-write-new-end : tie.Need-part-write-new-end
 part-write-new-end c =
     let s = c .before .before .before .before in
-    let n = record-inside 10 wordStrides (s .args .room .now) (s .args .k) (s .args .i) (s .pre .1 .0 .table) (s .pre .1 .0 .slot) in
+    let n = record-inside 11 wordStrides (s .args .room .now) (s .args .k) (s .args .i) (s .pre .1 .0 .table) (s .pre .1 .0 .slot) in
     let e = c .before .word-at .ensures in
     let f = c .word-stride .ensures in
     omega (arith, s .pre .1 .0 .enough)

@@ -20,7 +20,7 @@ word-stride-requires c κs = search needs
 add-end : tie.Need-add-end
 add-end c =
     let s = c .before .before .before .before in
-    let n = record-inside 10 wordStrides (s .args .room .now) (s .args .k) (s .args .i) (s .pre .1 .0 .table) (s .pre .1 .0 .slot) in
+    let n = record-inside 11 wordStrides (s .args .room .now) (s .args .k) (s .args .i) (s .pre .1 .0 .table) (s .pre .1 .0 .slot) in
     let e = c .before .word-at .ensures in
     let f = c .word-stride .ensures in
     record { fits = omega (arith, s .pre .1 .0 .enough) }
@@ -28,7 +28,7 @@ add-end c =
 mul-write-words : tie.Need-mul-write-words
 mul-write-words c =
     let s = c .before .before .before .before in
-    let n = record-inside 10 wordStrides (s .args .room .now) (s .args .k) (s .args .i) (s .pre .1 .0 .table) (s .pre .1 .0 .slot) in
+    let n = record-inside 11 wordStrides (s .args .room .now) (s .args .k) (s .args .i) (s .pre .1 .0 .table) (s .pre .1 .0 .slot) in
     let e = c .before .word-at .ensures in
     let f = c .word-stride .ensures in
     record { fits = omega (arith, s .pre .1 .0 .enough) }
@@ -42,7 +42,7 @@ part-write-words-start c = search needs
 part-write-words-end : tie.Need-part-write-words-end
 part-write-words-end c =
     let s = c .before .before .before .before in
-    let n = record-inside 10 wordStrides (s .args .room .now) (s .args .k) (s .args .i) (s .pre .1 .0 .table) (s .pre .1 .0 .slot) in
+    let n = record-inside 11 wordStrides (s .args .room .now) (s .args .k) (s .args .i) (s .pre .1 .0 .table) (s .pre .1 .0 .slot) in
     let e = c .before .word-at .ensures in
     let f = c .word-stride .ensures in
     omega (arith, s .pre .1 .0 .enough)

@@ -24,7 +24,7 @@ word-stride-requires c κs = search needs
 add-end : tie.Need-add-end
 add-end c =
     let s = c .before .before .before .before .before .before in
-    let n = record-inside 10 wordStrides (s .args .room .now) (s .args .k) (s .args .i) (s .pre .1 .0 .table) (s .pre .1 .0 .slot) in
+    let n = record-inside 11 wordStrides (s .args .room .now) (s .args .k) (s .args .i) (s .pre .1 .0 .table) (s .pre .1 .0 .slot) in
     let e = c .before .word-at .ensures in
     let f = c .word-stride .ensures in
     record { fits = omega (arith, s .pre .1 .0 .enough) }
@@ -32,7 +32,7 @@ add-end c =
 mul-double : tie.Need-mul-double
 mul-double c =
     let s = c .before .before .before .before .before .before in
-    let n = record-inside 10 wordStrides (s .args .room .now) (s .args .k) (s .args .i) (s .pre .1 .0 .table) (s .pre .1 .0 .slot) in
+    let n = record-inside 11 wordStrides (s .args .room .now) (s .args .k) (s .args .i) (s .pre .1 .0 .table) (s .pre .1 .0 .slot) in
     let e = c .before .word-at .ensures in
     let f = c .word-stride .ensures in
     record { fits = omega (arith, s .pre .1 .0 .enough) }
@@ -46,7 +46,7 @@ part-double-start c = search needs
 part-double-end : tie.Need-part-double-end
 part-double-end c =
     let s = c .before .before .before .before .before .before in
-    let n = record-inside 10 wordStrides (s .args .room .now) (s .args .k) (s .args .i) (s .pre .1 .0 .table) (s .pre .1 .0 .slot) in
+    let n = record-inside 11 wordStrides (s .args .room .now) (s .args .k) (s .args .i) (s .pre .1 .0 .table) (s .pre .1 .0 .slot) in
     let e = c .before .word-at .ensures in
     let f = c .word-stride .ensures in
     omega (arith, s .pre .1 .0 .enough)
