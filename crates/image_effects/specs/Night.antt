@@ -30,8 +30,7 @@ use Rattle.station_answers.specs.declared.Split.the-variants.{Is, Refused}
 use Rattle.split_sequences.specs.Sequence.{callsWords, callsReals, callsEdges}
 use Rattle.split_sequences.specs.Same.{same-trans, same-formed}
 use Rattle.split_sequences.specs.Tested.{refusal-same}
-use Rattle.split_sequences.specs.Walked.{walks-same, euler-same}
-use Rattle.split_sequences.specs.Reported.{report-same}
+use Rattle.split_sequences.specs.Walked.{report-same, walks-same, euler-same}
 use Rattle.split_sequences.specs.Restored.{restored-same}
 use Rattle.split_sequences.specs.Followed.{Followed, number-read, followed}
 use Rattle.split_sequences.specs.Statements.{Sound, calls-model, memory-stays-well-formed}
@@ -146,14 +145,14 @@ module _ (room w : List ℕ) (x : List Float) (l k : List Cut) (s : Sound room w
   pub night-keeps-empty-report : (b : ℕ) → b < decode room w x .bodies .used → emptyReport (topologicalReport (decode room w x) b) ≡ true
       → emptyReport (topologicalReport (decode room (nightWords room w x l v y k) (nightReals room w x l v y k)) b) ≡ true
   night-keeps-empty-report b hb r =
-      ap emptyReport (report-same (limits room) behind whole (night-keeps-model .model) (all-formed (l ++ k)) b (still-there b hb))
+      ap emptyReport (report-same behind whole (night-keeps-model .model) b (still-there b hb))
       ∙ empty-report-stays (limits room) (decode room w x) (l ++ k) (s .formed) b hb r
 
   -- "so vertices minus edges plus faces never changes"
   pub night-keeps-euler-number : (b : ℕ) → b < decode room w x .bodies .used
       → eulerNumber (decode room (nightWords room w x l v y k) (nightReals room w x l v y k)) b ≡ eulerNumber (decode room w x) b
   night-keeps-euler-number b hb =
-      euler-same whole behind b (walks-same (limits room) behind whole (night-keeps-model .model) (all-formed (l ++ k)) b (still-there b hb))
+      euler-same whole behind b (walks-same behind whole (night-keeps-model .model) b (limits room) (all-formed (l ++ k)) (still-there b hb))
       ∙ euler-number-stays (limits room) (decode room w x) (l ++ k) (s .formed) b hb
 
   -- "Striking out what was added gives back every stored list in its starting order", in the evening and in the morning

@@ -175,6 +175,14 @@ pub member-cons : (x y : ℕ) (l : List ℕ) → member x (y ∷ l) ≡ (eqb x y
 unfolding member
 member-cons x y l = refl
 
+pub member-head : (y : ℕ) (l : List ℕ) → member y (y ∷ l) ≡ true
+unfolding member
+member-head y l = rw (eq-eqb y y refl)
+
+pub member-tail : (x y : ℕ) (l : List ℕ) → member x l ≡ true → member x (y ∷ l) ≡ true
+unfolding member
+member-tail x y l h = rw (h, or-true (eqb x y))
+
 pub member-one : (x y : ℕ) → member x (y ∷ []) ≡ eqb x y
 unfolding member
 member-one x y = or-false (eqb x y)
@@ -221,6 +229,9 @@ all-at p (y ∷ l) c a h = go (eqb c y) (λ q. eqb-true c y q) h (all-at p l c (
     go : (b : Bool) → (b ≡ true → c ≡ y) → 1 ≤ cond b (suc (count c l)) (count c l) → (1 ≤ count c l → p c ≡ true) → p c ≡ true
     go true q r s = rw (q refl) (and-both (p y) (all p l) a .0)
     go false q r s = s r
+
+pub all-member : (p : ℕ → Bool) (l : List ℕ) (x : ℕ) → all p l ≡ true → member x l ≡ true → p x ≡ true
+all-member p l x a h = all-at p l x a (count-present x l h)
 
 -- a test that holds of whatever is listed holds of all entries
 pub all-counted : (p : ℕ → Bool) (l : List ℕ) → ((c : ℕ) → 1 ≤ count c l → p c ≡ true) → all p l ≡ true
@@ -389,6 +400,18 @@ bound-of key h limit l (y ∷ a) b k = go (eqb (key y) l) (λ q. eqb-true (key y
     go true q r s = subst (λ i. h i ≤ limit) (q refl) (leb-true (h (key y)) limit (both .0))
     go false q r s = s r
 
+-- ---- what is made of a list entry by entry is the same where each entry gives the same
+
+module _ {A R : Type 0} (of : (ℕ → A) → List ℕ → R) (step : A → R → R) (start : R) (none : (f : ℕ → A) → of f [] ≡ start)
+    (more : (f : ℕ → A) (y : ℕ) (l : List ℕ) → of f (y ∷ l) ≡ step (f y) (of f l)) where
+  pub fold-in : (f g : ℕ → A) (l : List ℕ) → ((y : ℕ) → member y l ≡ true → f y ≡ g y) → of f l ≡ of g l
+  fold-in f g [] h = rw (none f, none g)
+  fold-in f g (y ∷ l) h = rw (more f y l, more g y l, h y (member-head y l), fold-in f g l (λ x q. h x (member-tail x y l q)))
+
+  -- where each entry passes a test
+  pub fold-same : (f g : ℕ → A) (p : ℕ → Bool) (l : List ℕ) → ((y : ℕ) → p y ≡ true → f y ≡ g y) → all p l ≡ true → of f l ≡ of g l
+  fold-same f g p l h a = fold-in f g l (λ y q. h y (all-member p l y a q))
+
 -- ---- joined
 
 module _ {A : Type 0} where
@@ -421,11 +444,7 @@ module _ {A : Type 0} where
 
   -- the same from each entry is the same in all
   pub joined-same : (f g : ℕ → List A) (p : ℕ → Bool) (l : List ℕ) → ((y : ℕ) → p y ≡ true → f y ≡ g y) → all p l ≡ true → joined f l ≡ joined g l
-  unfolding joined all
-  joined-same f g p [] h a = refl
-  joined-same f g p (y ∷ l) h a =
-      let both : (p y ≡ true) × (all p l ≡ true) = and-both (p y) (all p l) a in
-      rw (h y (both .0), joined-same f g p l h (both .1))
+  joined-same = fold-same joined _++_ [] joined-none joined-cons
 
 -- ---- meet, meets: each entry at its first meeting
 

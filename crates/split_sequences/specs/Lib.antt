@@ -2,7 +2,6 @@ pub mod Sequence
 pub mod CallRows
 pub mod Same
 pub mod Walked
-pub mod Reported
 pub mod Tested
 pub mod Changed
 pub mod Followed

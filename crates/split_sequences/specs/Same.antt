@@ -15,17 +15,6 @@ use Rattle.meaning_list_laws.specs.Tests.{and-both}
 use Rattle.meaning_list_laws.specs.Lists.{all-append, all-one}
 use Rattle.memory_writes.specs.Change.{SameTable, SameModel}
 
--- ---- what is made of a list entry by entry is the same where each entry gives the same
-
-pub fold-same : {A R : Type 0} (of : (ℕ → A) → List ℕ → R) (step : A → R → R) (start : R) → ((f : ℕ → A) → of f [] ≡ start)
-    → ((f : ℕ → A) (y : ℕ) (l : List ℕ) → of f (y ∷ l) ≡ step (f y) (of f l))
-    → (f g : ℕ → A) (p : ℕ → Bool) (l : List ℕ) → ((y : ℕ) → p y ≡ true → f y ≡ g y) → all p l ≡ true → of f l ≡ of g l
-unfolding all
-fold-same of step start none more f g p [] h a = rw (none f, none g)
-fold-same of step start none more f g p (y ∷ l) h a =
-    let c = and-both (p y) (all p l) a in
-    rw (more f y l, more g y l, h y (c .0), fold-same of step start none more f g p l h (c .1))
-
 -- ---- tables
 
 module _ {A : Type 0} {t u : Table A} (s : SameTable t u) where

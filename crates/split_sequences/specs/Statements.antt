@@ -29,8 +29,7 @@ use Rattle.split_effect.specs.Statements.{HoldsModel, same-model, split-model}
 use Rattle.split_sequences.specs.Sequence.{callsWords, callsReals, callsEdges}
 use Rattle.split_sequences.specs.CallRows.{callRows}
 use Rattle.split_sequences.specs.Same.{same-formed}
-use Rattle.split_sequences.specs.Walked.{walks-same, euler-same}
-use Rattle.split_sequences.specs.Reported.{report-same}
+use Rattle.split_sequences.specs.Walked.{report-same, walks-same, euler-same}
 use Rattle.split_sequences.specs.Followed.{Followed, followed}
 use Rattle.split_sequences.specs.Restored.{restored-same}
 use Rattle.split_sequences.specs.Refused.{refused-there, there-refused, accepted-there, there-accepted}
@@ -70,7 +69,7 @@ module _ (room w : List ℕ) (x : List Float) (l : List Cut) (s : Sound room w x
   pub memory-keeps-empty-report : (b : ℕ) → b < decode room w x .bodies .used → emptyReport (topologicalReport (decode room w x) b) ≡ true
       → emptyReport (topologicalReport (decode room (callsWords room w x l) (callsReals room w x l)) b) ≡ true
   memory-keeps-empty-report b hb r =
-      ap emptyReport (report-same (limits room) behind (afterAll (limits room) before l) (calls-model .model) after-formed b (still-there b hb))
+      ap emptyReport (report-same behind (afterAll (limits room) before l) (calls-model .model) b (still-there b hb))
       ∙ empty-report-stays (limits room) before l (s .formed) b hb r
 
   -- 3. "so vertices minus edges plus faces never changes"
@@ -78,7 +77,7 @@ module _ (room w : List ℕ) (x : List Float) (l : List Cut) (s : Sound room w x
       → eulerNumber (decode room (callsWords room w x l) (callsReals room w x l)) b ≡ eulerNumber (decode room w x) b
   memory-keeps-euler-number b hb =
       euler-same (afterAll (limits room) before l) behind b
-      (walks-same (limits room) behind (afterAll (limits room) before l) (calls-model .model) after-formed b (still-there b hb))
+      (walks-same behind (afterAll (limits room) before l) (calls-model .model) b (limits room) after-formed (still-there b hb))
       ∙ euler-number-stays (limits room) before l (s .formed) b hb
 
   -- (W-211) "A model names its version and keeps it through splits"
@@ -121,7 +120,7 @@ module _ (room w : List ℕ) (x : List Float) (e : ℕ) (t : Float) (s : Sound r
   module _ (b : ℕ) (hb : b < decode room w x .bodies .used) where
     walks-after : SameWalks (modelAfter (limits room) m e t) after b
     walks-after =
-        walks-same (limits room) after (modelAfter (limits room) m e t) same-after (split-keeps (limits room) m e t (s .formed)) b
+        walks-same after (modelAfter (limits room) m e t) same-after b (limits room) (split-keeps (limits room) m e t (s .formed))
         (rw (bodies-kept (limits room) m e t) hb)
 
     pub accepted-call-adds-one : hasEdge (decode room w x) b e ≡ true

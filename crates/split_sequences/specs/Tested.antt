@@ -21,7 +21,8 @@ use Rattle.meaning.specs.Split.{carrier, startPoint, endPoint, lo, hi, paramete
 use Rattle.meaning.specs.Formed.{belowMaybe, WellFormed}
 use Rattle.meaning_list_laws.specs.Tests.{and-both, unless-zero}
 use Rattle.memory_writes.specs.Change.{SameTable, SameModel}
-use Rattle.split_sequences.specs.Same.{same-in, fold-same}
+use Rattle.meaning_list_laws.specs.Lists.{fold-same}
+use Rattle.split_sequences.specs.Same.{same-in}
 
 -- ---- refusals one after the other
 

@@ -59,7 +59,7 @@ one-body = rw (stone-decodes .bodies .used) (omega arith)
 
 has-it : hasEdge (decode stoneRoom stoneWords stoneReals) 0 0 ≡ true
 has-it =
-    let walk = walks-same (limits stoneRoom) (decode stoneRoom stoneWords stoneReals) stone stone-decodes formed 0 (omega arith) in
+    let walk = walks-same (decode stoneRoom stoneWords stoneReals) stone stone-decodes 0 (limits stoneRoom) formed (omega arith) in
     rw (has-edge (limits stoneRoom) (decode stoneRoom stoneWords stoneReals) (stone-sound .formed) 0 one-body 0, walk .edges) stone-has-edge
 
 -- so that its body gains the edge and the vertex of that answer
