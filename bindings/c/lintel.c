@@ -1,4 +1,4 @@
-/* Lays out the trial stone, asks all that the header has, splits an edge, keeps it as bytes, is refused, and does so by both versions. What it must print is the file `stdout` beside it. */
+/* Lays out the trial stone, asks all that the header has, splits an edge, keeps it as bytes, is refused, also as the other office, and does so by both versions. What it must print is the file `stdout` beside it. */
 #include <string.h>
 
 #include "stone.h"
@@ -14,23 +14,23 @@ static void told(const char *what, uint32_t number)
 static void walks(void)
 {
     uint32_t out[13], code[3];
-    size_t f = brunskerl_body_faces(LENT, 0, FACES, out, 13, &code[0]);
-    size_t e = brunskerl_body_edges(LENT, 0, EDGES, out, 13, &code[1]);
-    size_t v = brunskerl_body_vertices(LENT, 0, VERTICES, out, 13, &code[2]);
+    size_t f = brunskerl_body_faces(ASKED, 0, FACES, out, 13, &code[0]);
+    size_t e = brunskerl_body_edges(ASKED, 0, EDGES, out, 13, &code[1]);
+    size_t v = brunskerl_body_vertices(ASKED, 0, VERTICES, out, 13, &code[2]);
     for (unsigned k = 0; k < 3; k++)
         done(code[k], "walk");
     printf("%zu faces, %zu edges, %zu vertices; the last vertex is %u\n", f, e, v, (unsigned)out[v - 1]);
-    size_t none = brunskerl_body_faces(LENT, 1, FACES, out, 13, &code[0]);
+    size_t none = brunskerl_body_faces(ASKED, 1, FACES, out, 13, &code[0]);
     printf("faces of body 1: %zu, refused with %u\n", none, (unsigned)code[0]);
-    none = brunskerl_body_vertices(LENT, 0, VERTICES, out, 3, &code[0]);
+    none = brunskerl_body_vertices(ASKED, 0, VERTICES, out, 3, &code[0]);
     printf("vertices on a list of three: %zu, refused with %u\n", none, (unsigned)code[0]);
 }
 
 static void measured(void)
 {
     double volume[1], box[6];
-    done(brunskerl_body_volume(LENT, 0, FACES, &volume), "volume");
-    done(brunskerl_body_bounding_box(LENT, 0, VERTICES, &box), "box");
+    done(brunskerl_body_volume(ASKED, 0, FACES, &volume), "volume");
+    done(brunskerl_body_bounding_box(ASKED, 0, VERTICES, &box), "box");
     printf("volume %g, box (%g, %g, %g) to (%g, %g, %g)\n", volume[0], box[0], box[1], box[2], box[3], box[4], box[5]);
 }
 
@@ -38,8 +38,8 @@ static void report(void)
 {
     uint32_t list[16], fit[1];
     size_t counts[3];
-    done(brunskerl_check_body(LENT, 0, 1, 3, EDGES, list, 16, &counts), "check");
-    done(brunskerl_fit_to_saw(LENT, 0, EDGES, &fit), "fit to saw");
+    done(brunskerl_check_body(ASKED, 0, 1, 3, EDGES, list, 16, &counts), "check");
+    done(brunskerl_fit_to_saw(ASKED, 0, EDGES, &fit), "fit to saw");
     printf("%zu faults, %zu kept, %zu unchecked, fit to saw: %u\n", counts[0], counts[1], counts[2], (unsigned)fit[0]);
     for (size_t i = 0; i < counts[1]; i++) {
         const uint32_t *fault = list + 4 * i;
@@ -50,7 +50,7 @@ static void report(void)
 static void split(size_t edge, double fraction)
 {
     uint32_t ids[3];
-    uint32_t number = brunskerl_split_line_edge(LENT, edge, fraction, &ids);
+    uint32_t number = brunskerl_split_line_edge(ASKED, edge, fraction, &ids);
     printf("split of edge %zu at %g: ", edge, fraction);
     if (number != 0) {
         printf("refused with %u\n", (unsigned)number);
@@ -75,8 +75,8 @@ static void again(void)
     uint32_t body[2], region[3], shell[4], face[8], loop[2], fin[4], edge[8], vertex[1], carrier[1];
     double own[1], at[4], six[6];
     unsigned records = 0;
-    for (size_t i = 0; brunskerl_body(LENT, i, &body) == 0; i++, records++)
-        done(brunskerl_set_body(LENT, i, WORDS(1, body[0])), "set body");
+    for (size_t i = 0; brunskerl_body(ASKED, i, &body) == 0; i++, records++)
+        done(brunskerl_set_body(ASKED, i, WORDS(1, body[0])), "set body");
     for (size_t i = 0; brunskerl_region(LENT, i, &region) == 0; i++, records++)
         done(brunskerl_set_region(LENT, i, WORDS(2, region[0], region[1])), "set region");
     for (size_t i = 0; brunskerl_shell(LENT, i, &shell) == 0; i++, records++)
@@ -131,22 +131,52 @@ static void entries(void)
     done(brunskerl_precision(LENT, &precision), "precision");
     done(brunskerl_version(LENT, &is), "version");
     printf("precision %g, version %u\n", precision[0], (unsigned)is[0]);
-    done(brunskerl_list_entry(LENT, 6, 0, 3, &entry), "fin 3 of loop 0");
+    done(brunskerl_list_entry(ASKED, 6, 0, 3, &entry), "fin 3 of loop 0");
     done(brunskerl_fin_vertices(LENT, entry[0], &ends_of), "its ends");
     printf("loop 0 ends with fin %u, from vertex %u to vertex %u\n", (unsigned)entry[0], (unsigned)ends_of[1], (unsigned)ends_of[3]);
-    done(brunskerl_put_entry(LENT, 6, 0, 3, entry[0]), "the same entry put");
-    told("an entry at place 4", brunskerl_put_entry(LENT, 6, 0, 4, entry[0]));
-    told("an entry of list 8", brunskerl_list_entry(LENT, 8, 0, 0, &entry));
+    done(brunskerl_put_entry(ASKED, 6, 0, 3, entry[0]), "the same entry put");
+    told("an entry at place 4", brunskerl_put_entry(ASKED, 6, 0, 4, entry[0]));
+    told("an entry of list 8", brunskerl_list_entry(ASKED, 8, 0, 0, &entry));
     for (size_t id = 7; id < 9; id++) {
-        done(brunskerl_contains(LENT, 7, id, &is), "contains");
+        done(brunskerl_contains(ASKED, 7, id, &is), "contains");
         printf("vertex %zu: %s\n", id, is[0] ? "there" : "not there");
     }
-    told("a record of table 8", brunskerl_contains(LENT, 8, 0, &is));
+    told("a record of table 8", brunskerl_contains(ASKED, 8, 0, &is));
     done(brunskerl_set_fin_geometry(LENT, 0), "a pcurve");
     done(brunskerl_fin(LENT, 0, &fin), "fin 0");
     printf("fin 0 with a pcurve: %u\n", (unsigned)fin[3]);
     split(uses[0][0], 0.5);
     done(brunskerl_set_fin(LENT, 0, WORDS(4, fin[0], fin[1], fin[2], 0)), "fin 0 without");
+}
+
+/* The stone as the other office is told of it, and an office that is none. A region, and where an edge runs, is told to both. */
+static void others(void)
+{
+    uint32_t is[1], body[2], code;
+    double volume[1], bounds[2];
+    office = 1;
+    told("the body, as office 1", brunskerl_body(ASKED, 0, &body));
+    done(brunskerl_contains(ASKED, 0, 0, &is), "contains");
+    printf("body 0, as office 1: %s\n", is[0] ? "there" : "not there");
+    done(brunskerl_contains(ASKED, 1, 0, &is), "contains");
+    printf("region 0, as office 1: %s\n", is[0] ? "there" : "not there");
+    size_t none = brunskerl_body_faces(ASKED, 0, FACES, is, 1, &code);
+    printf("its faces, as office 1: %zu, refused with %u\n", none, (unsigned)code);
+    told("its volume, as office 1", brunskerl_body_volume(ASKED, 0, FACES, &volume));
+    told("a region of it struck, as office 1", brunskerl_strike_entry(ASKED, 0, 0, 1));
+    told("another kind of it, as office 1", brunskerl_set_body(ASKED, 0, WORDS(1, 0)));
+    told("a kind of it that is none, as office 1", brunskerl_set_body(ASKED, 0, WORDS(1, 5)));
+    told("a body of its own, as office 1", brunskerl_insert_body(ASKED, WORDS(1, 3), &is));
+    done(brunskerl_edge_parameter_bounds(LENT, 0, &bounds), "bounds of edge 0");
+    printf("as office 1, ");
+    split(0, 0.25);
+    office = 2;
+    printf("as office 2, ");
+    split(0, 0.25);
+    told("a body, as office 2", brunskerl_insert_body(ASKED, WORDS(1, 3), &is));
+    told("its volume, as office 2, with no marks", brunskerl_body_volume(ASKED, 0, faces, 0, &volume));
+    office = 0;
+    told("its volume, with no marks", brunskerl_body_volume(ASKED, 0, faces, 0, &volume));
 }
 
 /* Edge 0 has a tolerance of its own below the session's, and lies off the plane of face 0 by more than the one and less than the other. */
@@ -172,6 +202,7 @@ int main(void)
     measured();
     report();
     entries();
+    others();
     again();
     split(0, 0);
     split(0, 1.0 / 4096);
@@ -183,22 +214,22 @@ int main(void)
     report();
     /* Every table of the split is full now, and so is that of the bodies. */
     split(1, 0.5);
-    told("a second body", brunskerl_insert_body(LENT, WORDS(1, 3), &id));
-    told("a body of a kind that is none", brunskerl_insert_body(LENT, WORDS(1, 5), &id));
+    told("a second body", brunskerl_insert_body(ASKED, WORDS(1, 3), &id));
+    told("a body of a kind that is none", brunskerl_insert_body(ASKED, WORDS(1, 5), &id));
     again();
-    done(brunskerl_strike_entry(LENT, 6, 0, 4), "the last fin of loop 0 struck");
+    done(brunskerl_strike_entry(ASKED, 6, 0, 4), "the last fin of loop 0 struck");
     report();
-    told("a word too few", brunskerl_contains(&room, words, n - 1, reals, m, 0, 0, &id));
+    told("a word too few", brunskerl_contains(&room, words, n - 1, reals, m, office, 0, 0, &id));
     told("an empty model of precision 0", brunskerl_make(LENT, 0, 1));
     told("an empty model of version 3", brunskerl_make(LENT, 0.001, 3));
     /* Nothing is wrong with an empty body, a solid with its void region alone, and it is not fit to saw. */
     done(brunskerl_make(LENT, 0.001, 1), "make");
-    done(brunskerl_insert_body(LENT, WORDS(1, 3), &id), "body");
+    done(brunskerl_insert_body(ASKED, WORDS(1, 3), &id), "body");
     done(brunskerl_insert_region(LENT, WORDS(2, 0, 0), &id), "region");
-    done(brunskerl_append_entry(LENT, 0, 0, 0), "region of the body");
+    done(brunskerl_append_entry(ASKED, 0, 0, 0), "region of the body");
     report();
     double volume[1];
-    told("the volume of the empty body", brunskerl_body_volume(LENT, 0, FACES, &volume));
+    told("the volume of the empty body", brunskerl_body_volume(ASKED, 0, FACES, &volume));
     between(1);
     between(2);
     clear();

@@ -17,8 +17,12 @@ static size_t n, m;
 /* Seen marks, one for each record that there is room for. */
 static uint8_t faces[6], edges[13], vertices[9];
 
-/* The lent memory, as the calls take it. */
+/* The office that asks: the stone is office 0's. */
+static uint32_t office = 0;
+
+/* The lent memory, as the calls take it, and with the office behind it. */
 #define LENT &room, words, n, reals, m
+#define ASKED LENT, office
 #define FACES faces, sizeof faces
 #define EDGES FACES, edges, sizeof edges
 #define VERTICES EDGES, vertices, sizeof vertices
@@ -67,12 +71,12 @@ static void lay_out(uint32_t version)
     if (words == NULL || reals == NULL)
         exit(2);
     done(brunskerl_make(LENT, 0.001, version), "make");
-    done(brunskerl_insert_body(LENT, WORDS(1, 3), &id), "body");
+    done(brunskerl_insert_body(ASKED, WORDS(1, 3), &id), "body");
     for (uint32_t i = 0; i < 2; i++) {
         done(brunskerl_insert_region(LENT, WORDS(2, 0, i), &id), "region");
         done(brunskerl_insert_shell(LENT, WORDS(1, i), &id), "shell");
-        done(brunskerl_append_entry(LENT, 0, 0, i), "region of the body");
-        done(brunskerl_append_entry(LENT, 1, i, i), "shell of a region");
+        done(brunskerl_append_entry(ASKED, 0, 0, i), "region of the body");
+        done(brunskerl_append_entry(ASKED, 1, i, i), "shell of a region");
     }
     for (unsigned i = 0; i < 8; i++) {
         corner(i, p);
@@ -93,13 +97,13 @@ static void lay_out(uint32_t version)
         done(brunskerl_insert_face(LENT, WORDS(7, 1, 0, 1, 1, 1, i, 0), &id), "face");
         done(brunskerl_insert_loop(LENT, WORDS(1, i), &id), "loop");
         for (uint32_t shell = 0; shell < 2; shell++)
-            done(brunskerl_append_entry(LENT, 2, shell, i), "face of a shell");
-        done(brunskerl_append_entry(LENT, 5, i, i), "loop of a face");
+            done(brunskerl_append_entry(ASKED, 2, shell, i), "face of a shell");
+        done(brunskerl_append_entry(ASKED, 5, i, i), "loop of a face");
         for (uint32_t k = 0; k < 4; k++) {
             uint32_t edge = uses[i][k];
             done(brunskerl_insert_fin(LENT, WORDS(4, i, edge, k > 1, 0), &id), "fin");
-            done(brunskerl_append_entry(LENT, 6, i, id[0]), "fin of a loop");
-            done(brunskerl_append_entry(LENT, 7, edge, id[0]), "fin of an edge");
+            done(brunskerl_append_entry(ASKED, 6, i, id[0]), "fin of a loop");
+            done(brunskerl_append_entry(ASKED, 7, edge, id[0]), "fin of an edge");
         }
     }
 }

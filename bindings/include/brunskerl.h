@@ -8,17 +8,25 @@
  * place. The version says which tolerance of an edge or a vertex is in effect in the split, the report and fit to saw: in version 1 its own, else the
  * session's, which is half the precision; in version 2 the larger of its own and the session's, and the session's where it has none of its own.
  *
+ * Two drawing offices share the tables. Each body is one office's, 0 or 1, from its insert on, and every call that names or makes a body names the office
+ * that asks, right behind the lent memory. A body of the other office is answered as one that does not exist: refused with 2 where a missing one is, and not
+ * contained. So is an edge, to a split, that is in the walk of a body of the other office; a body whose walk of edges fails has none. All else is both offices':
+ * a region, an edge, a fin have no office, and to hold the id of a body, as a region does, is not to name it. What an office is told of its bodies by walks, box,
+ * volume, report and fit to saw is the same whatever stands in the other's records, where no record is reached from bodies of both, and each id met from its
+ * own names a record, or none, as before. Slots and ids are common: an 8 and a new id may depend on the other. An office above 1 is a 1, right after 9, in each
+ * call that takes one.
+ *
  * What a caller owes. Each pointer is valid, aligned for its type and not null, also where its length is 0, and the length that follows it is the
  * true one. No part that a call writes to overlaps another part of that call. While it runs, nothing else writes to its parts, nor reads those that it
  * writes to. Floats are as a program finds them at its start: rounded to the nearest, no flush to zero (which -ffast-math would set), no traps. The
  * station keeps nothing between calls, no address either, so that calls on other memory may run beside each other. A call takes less than 128 KB of
  * stack, and no memory but that and what is lent. From the C library the station needs memcpy and memset.
  *
- * The answers about a model of version 1 are those of the Rust that the station is ported from where coordinates are finite and at most 2^40 in size, the
- * precision and tolerances at least 2^-100, and each direction and normal is a vector divided by its length. That is the caller's part: the station takes a
- * direction as it is given. On a line whose direction is not of length 1 an edge has other parameters, and a split can put its vertex beyond the edge's
- * end; from a plane whose normal is not, distances are as many times too long or too short. Divide by hypot(hypot(x, y), z), as the Rust
- * does; the Rust crate beside this header has makers of lines and planes from points.
+ * The answers about a model of version 1 and of one office, asked by it, are those of the Rust that the station is ported from where coordinates are
+ * finite and at most 2^40 in size, the precision and tolerances at least 2^-100, and each direction and normal is a vector divided by its length. That
+ * is the caller's part: the station takes a direction as it is given. On a line whose direction is not of length 1 an edge has other parameters, and a
+ * split can put its vertex beyond the edge's end; from a plane whose normal is not, distances are as many times too long or too short. Divide by
+ * hypot(hypot(x, y), z), as the Rust does; the Rust crate beside this header has makers of lines and planes from points.
  *
  * Each call returns 0 or the refusal's number, unless it says otherwise. A refusal is the number alone: no call says which record it was refused for. It
  * leaves every table, list and slot as it was, but for a walk's `code`, which gets the number; marks are left zero, refused or not. The refusals
@@ -27,7 +35,7 @@
  *
  * A record's fields, as `value` and `floats` hold them. An optional id is a tag, 0 for none or 1, and the id. A lookup gives the lengths
  * of the record's lists behind its fields; an insert and a set take the fields alone, and the lists are filled entry by entry.
- *   body     kind (0 acorn, 1 wire, 2 sheet, 3 solid, 4 general)              | regions
+ *   body     kind (0 acorn, 1 wire, 2 sheet, 3 solid, 4 general)              | regions; its office is the one that the call names
  *   region   body, solid (0 or 1)                                             | shells
  *   shell    region                                                           | faces, wire edges, acorn vertices
  *   face     front shell (optional), back shell (optional), surface (optional), sense (0 positive, 1 negative) | loops
@@ -52,7 +60,7 @@
 #define BRUNSKERL_LISTS_OUT const size_t (*room)[10], uint32_t *words, size_t n, const double *reals, size_t m
 
 /* How many words and floats a model of these capacities takes. */
-#define BRUNSKERL_WORDS(r) (11 + 18 * (r)[0] + 19 * (r)[1] + 836 * (r)[2] + 24 * (r)[3] + 1026 * (r)[4] + 4 * (r)[5] + 16 * (r)[6] + (r)[7] + (r)[8] + (r)[9])
+#define BRUNSKERL_WORDS(r) (11 + 19 * (r)[0] + 19 * (r)[1] + 836 * (r)[2] + 24 * (r)[3] + 1026 * (r)[4] + 4 * (r)[5] + 16 * (r)[6] + (r)[7] + (r)[8] + (r)[9])
 #define BRUNSKERL_REALS(r) (1 + (r)[6] + 4 * (r)[7] + 6 * (r)[8] + 6 * (r)[9])
 
 #ifdef __cplusplus
@@ -66,8 +74,8 @@ uint32_t brunskerl_make(BRUNSKERL_MEMORY_OUT, double precision, uint32_t version
 uint32_t brunskerl_precision(BRUNSKERL_MEMORY, double (*value)[1]);
 uint32_t brunskerl_version(BRUNSKERL_MEMORY, uint32_t (*value)[1]);
 
-/* Lookups: 9, 2. */
-uint32_t brunskerl_body(BRUNSKERL_MEMORY, size_t id, uint32_t (*value)[2]);
+/* Lookups: 9, of a body 1 for the office, 2. */
+uint32_t brunskerl_body(BRUNSKERL_MEMORY, uint32_t office, size_t id, uint32_t (*value)[2]);
 uint32_t brunskerl_region(BRUNSKERL_MEMORY, size_t id, uint32_t (*value)[3]);
 uint32_t brunskerl_shell(BRUNSKERL_MEMORY, size_t id, uint32_t (*value)[4]);
 uint32_t brunskerl_face(BRUNSKERL_MEMORY, size_t id, uint32_t (*value)[8]);
@@ -78,8 +86,8 @@ uint32_t brunskerl_vertex(BRUNSKERL_MEMORY, size_t id, uint32_t (*value)[1], dou
 uint32_t brunskerl_curve(BRUNSKERL_MEMORY, size_t id, uint32_t (*value)[1], double (*floats)[6]);
 uint32_t brunskerl_surface(BRUNSKERL_MEMORY, size_t id, uint32_t (*value)[1], double (*floats)[6]);
 
-/* Inserts: 9, 1, 8. The new record's id is put in its slot. */
-uint32_t brunskerl_insert_body(BRUNSKERL_MEMORY_OUT, const uint32_t (*value)[1], uint32_t (*id)[1]);
+/* Inserts: 9, of a body 1 for the office, 1, 8. The new record's id is put in its slot. A new body is the office's. */
+uint32_t brunskerl_insert_body(BRUNSKERL_MEMORY_OUT, uint32_t office, const uint32_t (*value)[1], uint32_t (*id)[1]);
 uint32_t brunskerl_insert_region(BRUNSKERL_MEMORY_OUT, const uint32_t (*value)[2], uint32_t (*id)[1]);
 uint32_t brunskerl_insert_shell(BRUNSKERL_MEMORY_OUT, const uint32_t (*value)[1], uint32_t (*id)[1]);
 uint32_t brunskerl_insert_face(BRUNSKERL_MEMORY_OUT, const uint32_t (*value)[7], uint32_t (*id)[1]);
@@ -90,8 +98,8 @@ uint32_t brunskerl_insert_vertex(BRUNSKERL_MEMORY_OUT, const uint32_t (*value)[1
 uint32_t brunskerl_insert_curve(BRUNSKERL_MEMORY_OUT, const uint32_t (*value)[1], const double (*floats)[6], uint32_t (*id)[1]);
 uint32_t brunskerl_insert_surface(BRUNSKERL_MEMORY_OUT, const uint32_t (*value)[1], const double (*floats)[6], uint32_t (*id)[1]);
 
-/* Edits of a record's fields; its lists stay: 9, 1, 2. set_fin_geometry marks a fin as one with a pcurve. */
-uint32_t brunskerl_set_body(BRUNSKERL_MEMORY_OUT, size_t id, const uint32_t (*value)[1]);
+/* Edits of a record's fields; its lists stay, and a body's office: 9, of a body 1 for the office, 1, 2. set_fin_geometry marks a fin as one with a pcurve. */
+uint32_t brunskerl_set_body(BRUNSKERL_MEMORY_OUT, uint32_t office, size_t id, const uint32_t (*value)[1]);
 uint32_t brunskerl_set_region(BRUNSKERL_MEMORY_OUT, size_t id, const uint32_t (*value)[2]);
 uint32_t brunskerl_set_shell(BRUNSKERL_MEMORY_OUT, size_t id, const uint32_t (*value)[1]);
 uint32_t brunskerl_set_face(BRUNSKERL_MEMORY_OUT, size_t id, const uint32_t (*value)[7]);
@@ -103,39 +111,39 @@ uint32_t brunskerl_set_curve(BRUNSKERL_MEMORY_OUT, size_t id, const uint32_t (*v
 uint32_t brunskerl_set_surface(BRUNSKERL_MEMORY_OUT, size_t id, const uint32_t (*value)[1], const double (*floats)[6]);
 uint32_t brunskerl_set_fin_geometry(BRUNSKERL_MEMORY_OUT, size_t id);
 
-/* Whether a record exists, by its table, 0 to 7: 9, 1. */
-uint32_t brunskerl_contains(BRUNSKERL_MEMORY, uint32_t table, size_t id, uint32_t (*value)[1]);
+/* Whether a record exists for the office, by its table, 0 to 7: 9, 1 for the office, 1 for another table. */
+uint32_t brunskerl_contains(BRUNSKERL_MEMORY, uint32_t office, uint32_t table, size_t id, uint32_t (*value)[1]);
 
-/* Entries of the lists, by the list's number: 9, 1 for another number, 2, 1 for a place that is not there, 8 for a full list. */
-uint32_t brunskerl_list_entry(BRUNSKERL_MEMORY, size_t list, size_t id, size_t place, uint32_t (*entry)[1]);
-uint32_t brunskerl_put_entry(BRUNSKERL_LISTS_OUT, size_t list, size_t id, size_t place, uint32_t entry);
-uint32_t brunskerl_append_entry(BRUNSKERL_LISTS_OUT, size_t list, size_t id, uint32_t entry);
-uint32_t brunskerl_strike_entry(BRUNSKERL_LISTS_OUT, size_t list, size_t id, size_t place);
+/* Entries of the lists, by the list's number: 9, 1 for the office, whatever the list is, 1 for another number, 2, 1 for a place that is not there, 8 for a full list. */
+uint32_t brunskerl_list_entry(BRUNSKERL_MEMORY, uint32_t office, size_t list, size_t id, size_t place, uint32_t (*entry)[1]);
+uint32_t brunskerl_put_entry(BRUNSKERL_LISTS_OUT, uint32_t office, size_t list, size_t id, size_t place, uint32_t entry);
+uint32_t brunskerl_append_entry(BRUNSKERL_LISTS_OUT, uint32_t office, size_t list, size_t id, uint32_t entry);
+uint32_t brunskerl_strike_entry(BRUNSKERL_LISTS_OUT, uint32_t office, size_t list, size_t id, size_t place);
 
-/* Walks: 9, 8 for short marks, 2, 8 for a short list. The number is put in `code`; what is returned is how many ids stand in the front of
+/* Walks: 9, 1 for the office, 8 for short marks, 2, 8 for a short list. The number is put in `code`; what is returned is how many ids stand in the front of
  * `out`. Marks are bytes, one for each record of the capacity; they may hold anything, and are left zero. */
-size_t brunskerl_body_faces(BRUNSKERL_MEMORY, size_t body, uint8_t *faces, size_t f, uint32_t *out, size_t o, uint32_t *code);
-size_t brunskerl_body_edges(BRUNSKERL_MEMORY, size_t body, uint8_t *faces, size_t f, uint8_t *edges, size_t e, uint32_t *out, size_t o, uint32_t *code);
-size_t brunskerl_body_vertices(BRUNSKERL_MEMORY, size_t body, uint8_t *faces, size_t f, uint8_t *edges, size_t e, uint8_t *vertices, size_t v, uint32_t *out, size_t o, uint32_t *code);
+size_t brunskerl_body_faces(BRUNSKERL_MEMORY, uint32_t office, size_t body, uint8_t *faces, size_t f, uint32_t *out, size_t o, uint32_t *code);
+size_t brunskerl_body_edges(BRUNSKERL_MEMORY, uint32_t office, size_t body, uint8_t *faces, size_t f, uint8_t *edges, size_t e, uint32_t *out, size_t o, uint32_t *code);
+size_t brunskerl_body_vertices(BRUNSKERL_MEMORY, uint32_t office, size_t body, uint8_t *faces, size_t f, uint8_t *edges, size_t e, uint8_t *vertices, size_t v, uint32_t *out, size_t o, uint32_t *code);
 
 /* The ends of a fin in its direction, each a tag and an id: 9, 2. */
 uint32_t brunskerl_fin_vertices(BRUNSKERL_MEMORY, size_t fin, uint32_t (*ends)[4]);
 
-/* The box's two corners, and the volume. Both: 9, 8 for short marks, 2 for a missing body, region or shell; for each face of the walk 2 where it is
+/* The box's two corners, and the volume. Both: 9, 1 for the office, 8 for short marks, 2 for a missing body, region or shell; for each face of the walk 2 where it is
  * missing, 1 for no surface, 2 for a missing one, 7 for one that is no plane; 2 for a missing loop or fin; for each edge of the walk 2 where it is
  * missing, 1 for no curve, 2 for a missing one, 7 for one that is no line.
  * The box then: 2 for a missing vertex, 4 for no vertex, 4 for a coordinate that is not finite.
  * The volume then: 6 for a body that is no solid; for each face that a shell of a solid region lists, in list order, 1 where that shell is neither its
  * front nor its back or is both, 7 unless it has one loop, 4 for fewer than three fins, and for each fin 7 for a start that is none, 2 for a missing
  * one; 4 where there is no such face. */
-uint32_t brunskerl_body_bounding_box(BRUNSKERL_MEMORY, size_t body, uint8_t *faces, size_t f, uint8_t *edges, size_t e, uint8_t *vertices, size_t v, double (*corners)[6]);
-uint32_t brunskerl_body_volume(BRUNSKERL_MEMORY, size_t body, uint8_t *faces, size_t f, double (*volume)[1]);
+uint32_t brunskerl_body_bounding_box(BRUNSKERL_MEMORY, uint32_t office, size_t body, uint8_t *faces, size_t f, uint8_t *edges, size_t e, uint8_t *vertices, size_t v, double (*corners)[6]);
+uint32_t brunskerl_body_volume(BRUNSKERL_MEMORY, uint32_t office, size_t body, uint8_t *faces, size_t f, double (*volume)[1]);
 
 /* The parameters of an edge's ends on its line, and the split at a fraction between them: that edge, the new edge, the new
  * vertex. The line's direction must have the length 1, or the new vertex can lie beyond the edge's end.
- * The parameters: 9, then tests 2 and 4 to 8 of these. The split: 9, then
+ * The parameters: 9, then tests 2 and 4 to 8 of these, whosever edge it is. The split: 9, 1 for the office, then
  *    1  1 for a fraction that is not finite, at most 0, or at least 1
- *    2  2 for a missing edge
+ *    2  2 for a missing edge, and for one that is in the walk of a body of the other office; a body whose walk fails has none
  *    3  for each fin that the edge lists, 2 where it is missing, 7 where it has a pcurve
  *    4  7 for an end that is none
  *    5  1 for no curve, 2 for a missing one, 7 for one that is no line
@@ -150,25 +158,26 @@ uint32_t brunskerl_body_volume(BRUNSKERL_MEMORY, size_t body, uint8_t *faces, si
  *   12  1 where a shell lists the edge among its wire edges more than once
  *   13  8 where a table or a list has no room for what the split adds */
 uint32_t brunskerl_edge_parameter_bounds(BRUNSKERL_MEMORY, size_t edge, double (*bounds)[2]);
-uint32_t brunskerl_split_line_edge(BRUNSKERL_MEMORY_OUT, size_t edge, double fraction, uint32_t (*ids)[3]);
+uint32_t brunskerl_split_line_edge(BRUNSKERL_MEMORY_OUT, uint32_t office, size_t edge, double fraction, uint32_t (*ids)[3]);
 
-/* The report: geometry is checked where that number is not 0; 9, 8 for short marks, 1 for more than 255 samples, 2. The counts are all faults,
+/* The report: geometry is checked where that number is not 0; 9, 1 for the office, 8 for short marks, 1 for more than 255 samples, 2. The counts are all faults,
  * those kept in `list`, and the checks that could not be made: how many, not which. A fault is four words: kind, class (the entity's table), id,
  * reason. */
-uint32_t brunskerl_check_body(BRUNSKERL_MEMORY, size_t body, uint32_t geometry, size_t samples, uint8_t *faces, size_t f, uint8_t *edges, size_t e, uint32_t *list, size_t l, size_t (*counts)[3]);
+uint32_t brunskerl_check_body(BRUNSKERL_MEMORY, uint32_t office, size_t body, uint32_t geometry, size_t samples, uint8_t *faces, size_t f, uint8_t *edges, size_t e, uint32_t *list, size_t l, size_t (*counts)[3]);
 
 /* 1 where the body is fit to saw: geometry checked with three samples, no fault, nothing unchecked; the body is solid, a solid region of it has a face,
  * and every shell that a face of it names is one of the body's and lists the face. No more than that: it is 1 for a stone inside out (whose volume is
  * negative), for a flat one (whose volume is 0), and for one whose own tolerances swallow its errors. Ask for the volume and the box too. Refusals: 9,
- * 8 for short marks, 2. */
-uint32_t brunskerl_fit_to_saw(BRUNSKERL_MEMORY, size_t body, uint8_t *faces, size_t f, uint8_t *edges, size_t e, uint32_t (*fit)[1]);
+ * 1 for the office, 8 for short marks, 2. */
+uint32_t brunskerl_fit_to_saw(BRUNSKERL_MEMORY, uint32_t office, size_t body, uint8_t *faces, size_t f, uint8_t *edges, size_t e, uint32_t (*fit)[1]);
 
 /* The model as bytes, to be kept: docs/IMAGE.md has the format. One model has one image, whatever the capacities are and whatever lies where it says
  * nothing. The length in bytes: 9. The image, put in the front of `bytes`, and its length: 9, 8 where b is less than that; the bytes behind it stay.
  * Reading replaces the model in the lent memory. What the memory held is not tested, so that none need be made there before: 9 where the capacities
  * or lengths are wrong, 9 for bytes that are not exactly one image, 8 where a table has fewer slots than the image has records. The counts, the version,
  * the precision and the image's records are written; the slots behind them and the places behind each list's end stay. The image of a model of version
- * 2 begins with a record that says so; one without that record is of version 1, and one where it names anything but 2 is none. Ids are not tested, as
+ * 2 begins with a record that says so; one without that record is of version 1, and one where it names anything but 2 is none. An image has the bodies of both
+ * offices, and office 1's have a mark of their own: every body of an image from before there were offices is office 0's. Ids are not tested, as
  * everywhere. An image does not say what the capacities were, and holds no check sum: a byte that has changed can make it another model's image. */
 uint32_t brunskerl_image_length(BRUNSKERL_MEMORY, size_t (*length)[1]);
 uint32_t brunskerl_write_image(BRUNSKERL_MEMORY, uint8_t *bytes, size_t b, size_t (*length)[1]);

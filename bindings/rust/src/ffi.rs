@@ -15,7 +15,7 @@ macro_rules! calls {
 calls! {
     brunskerl_precision(value: *mut [f64; 1]) -> u32;
     brunskerl_version(value: *mut [u32; 1]) -> u32;
-    brunskerl_body(id: usize, value: *mut [u32; 2]) -> u32;
+    brunskerl_body(office: u32, id: usize, value: *mut [u32; 2]) -> u32;
     brunskerl_region(id: usize, value: *mut [u32; 3]) -> u32;
     brunskerl_shell(id: usize, value: *mut [u32; 4]) -> u32;
     brunskerl_face(id: usize, value: *mut [u32; 8]) -> u32;
@@ -25,29 +25,29 @@ calls! {
     brunskerl_vertex(id: usize, value: *mut [u32; 1], floats: *mut [f64; 4]) -> u32;
     brunskerl_curve(id: usize, value: *mut [u32; 1], floats: *mut [f64; 6]) -> u32;
     brunskerl_surface(id: usize, value: *mut [u32; 1], floats: *mut [f64; 6]) -> u32;
-    brunskerl_contains(table: u32, id: usize, value: *mut [u32; 1]) -> u32;
-    brunskerl_list_entry(list: usize, id: usize, place: usize, entry: *mut [u32; 1]) -> u32;
+    brunskerl_contains(office: u32, table: u32, id: usize, value: *mut [u32; 1]) -> u32;
+    brunskerl_list_entry(office: u32, list: usize, id: usize, place: usize, entry: *mut [u32; 1]) -> u32;
     brunskerl_fin_vertices(fin: usize, ends: *mut [u32; 4]) -> u32;
     brunskerl_edge_parameter_bounds(edge: usize, bounds: *mut [f64; 2]) -> u32;
-    brunskerl_body_faces(body: usize, faces: *mut u8, f: usize, out: *mut u32, o: usize, code: *mut u32) -> usize;
-    brunskerl_body_edges(body: usize, faces: *mut u8, f: usize, edges: *mut u8, e: usize, out: *mut u32, o: usize, code: *mut u32) -> usize;
+    brunskerl_body_faces(office: u32, body: usize, faces: *mut u8, f: usize, out: *mut u32, o: usize, code: *mut u32) -> usize;
+    brunskerl_body_edges(office: u32, body: usize, faces: *mut u8, f: usize, edges: *mut u8, e: usize, out: *mut u32, o: usize, code: *mut u32) -> usize;
     brunskerl_body_vertices(
-        body: usize, faces: *mut u8, f: usize, edges: *mut u8, e: usize, vertices: *mut u8, v: usize, out: *mut u32, o: usize, code: *mut u32
+        office: u32, body: usize, faces: *mut u8, f: usize, edges: *mut u8, e: usize, vertices: *mut u8, v: usize, out: *mut u32, o: usize, code: *mut u32
     ) -> usize;
     brunskerl_body_bounding_box(
-        body: usize, faces: *mut u8, f: usize, edges: *mut u8, e: usize, vertices: *mut u8, v: usize, corners: *mut [f64; 6]
+        office: u32, body: usize, faces: *mut u8, f: usize, edges: *mut u8, e: usize, vertices: *mut u8, v: usize, corners: *mut [f64; 6]
     ) -> u32;
     brunskerl_check_body(
-        body: usize, geometry: u32, samples: usize, faces: *mut u8, f: usize, edges: *mut u8, e: usize, list: *mut u32, l: usize,
+        office: u32, body: usize, geometry: u32, samples: usize, faces: *mut u8, f: usize, edges: *mut u8, e: usize, list: *mut u32, l: usize,
         counts: *mut [usize; 3]
     ) -> u32;
-    brunskerl_fit_to_saw(body: usize, faces: *mut u8, f: usize, edges: *mut u8, e: usize, fit: *mut [u32; 1]) -> u32;
-    brunskerl_body_volume(body: usize, faces: *mut u8, f: usize, volume: *mut [f64; 1]) -> u32;
+    brunskerl_fit_to_saw(office: u32, body: usize, faces: *mut u8, f: usize, edges: *mut u8, e: usize, fit: *mut [u32; 1]) -> u32;
+    brunskerl_body_volume(office: u32, body: usize, faces: *mut u8, f: usize, volume: *mut [f64; 1]) -> u32;
     brunskerl_image_length(length: *mut [usize; 1]) -> u32;
     brunskerl_write_image(bytes: *mut u8, b: usize, length: *mut [usize; 1]) -> u32;
     ;
     brunskerl_make(precision: f64, version: u32) -> u32;
-    brunskerl_insert_body(value: *const [u32; 1], id: *mut [u32; 1]) -> u32;
+    brunskerl_insert_body(office: u32, value: *const [u32; 1], id: *mut [u32; 1]) -> u32;
     brunskerl_insert_region(value: *const [u32; 2], id: *mut [u32; 1]) -> u32;
     brunskerl_insert_shell(value: *const [u32; 1], id: *mut [u32; 1]) -> u32;
     brunskerl_insert_face(value: *const [u32; 7], id: *mut [u32; 1]) -> u32;
@@ -57,7 +57,7 @@ calls! {
     brunskerl_insert_vertex(value: *const [u32; 1], floats: *const [f64; 4], id: *mut [u32; 1]) -> u32;
     brunskerl_insert_curve(value: *const [u32; 1], floats: *const [f64; 6], id: *mut [u32; 1]) -> u32;
     brunskerl_insert_surface(value: *const [u32; 1], floats: *const [f64; 6], id: *mut [u32; 1]) -> u32;
-    brunskerl_set_body(id: usize, value: *const [u32; 1]) -> u32;
+    brunskerl_set_body(office: u32, id: usize, value: *const [u32; 1]) -> u32;
     brunskerl_set_region(id: usize, value: *const [u32; 2]) -> u32;
     brunskerl_set_shell(id: usize, value: *const [u32; 1]) -> u32;
     brunskerl_set_face(id: usize, value: *const [u32; 7]) -> u32;
@@ -68,9 +68,9 @@ calls! {
     brunskerl_set_curve(id: usize, value: *const [u32; 1], floats: *const [f64; 6]) -> u32;
     brunskerl_set_surface(id: usize, value: *const [u32; 1], floats: *const [f64; 6]) -> u32;
     brunskerl_set_fin_geometry(id: usize) -> u32;
-    brunskerl_put_entry(list: usize, id: usize, place: usize, entry: u32) -> u32;
-    brunskerl_append_entry(list: usize, id: usize, entry: u32) -> u32;
-    brunskerl_split_line_edge(edge: usize, fraction: f64, ids: *mut [u32; 3]) -> u32;
-    brunskerl_strike_entry(list: usize, id: usize, place: usize) -> u32;
+    brunskerl_put_entry(office: u32, list: usize, id: usize, place: usize, entry: u32) -> u32;
+    brunskerl_append_entry(office: u32, list: usize, id: usize, entry: u32) -> u32;
+    brunskerl_split_line_edge(office: u32, edge: usize, fraction: f64, ids: *mut [u32; 3]) -> u32;
+    brunskerl_strike_entry(office: u32, list: usize, id: usize, place: usize) -> u32;
     brunskerl_read_image(bytes: *const u8, b: usize) -> u32;
 }

@@ -4,12 +4,16 @@
 //! [`Refusal`], which is a number alone, and leaves the model as it was. A [`Report`] counts what could not be measured as unchecked, never as
 //! sound; it does not say what that was.
 //!
-//! What a caller owes: lines and planes with directions and normals of length 1, which [`Carrier::line_through`], [`Carrier::plane_through`]
-//! and their like make; for the answers about a model of the first version to be those of the Rust that the station is ported from, finite coordinates
-//! of size at most 2^40, and a precision and tolerances of at least 2^-100; floats as a program finds them at its start (rounded to the nearest, no flush to zero). A call takes
-//! less than 128 KB of the thread's stack.
+//! What a caller owes: lines and planes with directions and normals of length 1, which [`Carrier::line_through`], [`Carrier::plane_through`] and
+//! their like make; for the answers about a model of the first version and of one office, asked by it, to be those of the Rust that the station is
+//! ported from, finite coordinates of size at most 2^40, and a precision and tolerances of at least 2^-100; floats as a program finds them at its
+//! start (rounded to the nearest, no flush to zero). A call takes less than 128 KB of the thread's stack.
 //!
 //! A model goes by a [`Version`] of the drawing practice, the first unless it is made [`Model::with_version`], and keeps it.
+//!
+//! Two drawing offices share the tables. A model is in the hands of one [`Office`], the first unless it is said ([`Model::held_by`]), and each call is that
+//! office's: a body that it makes is its own, and a body of the other's is answered as one that does not exist. So a program for one office says which it is
+//! once, or not at all.
 //!
 //! [`Model::save`] gives a model as bytes, to be kept, and [`Model::load`] takes it back.
 //!
@@ -23,26 +27,27 @@ mod words;
 
 use records::optional;
 
-pub use records::{BodyKind, Carrier, Edge, Face, Fin, List, Region, Sense, Version, Vertex};
+pub use records::{BodyKind, Carrier, Edge, Face, Fin, List, Office, Region, Sense, Version, Vertex};
 pub use words::{Entity, Fault, Refusal};
 
 /// 01's largest tables: bodies, regions, shells, faces, loops, fins, edges, vertices, curves, surfaces.
 pub const LARGEST: [usize; 10] = [64, 128, 128, 512, 512, 4096, 2048, 2048, 2048, 512];
 
 /// How many words and floats a record takes, by table.
-const WORDS: [usize; 10] = [18, 19, 836, 24, 1026, 4, 16, 1, 1, 1];
+const WORDS: [usize; 10] = [19, 19, 836, 24, 1026, 4, 16, 1, 1, 1];
 const REALS: [usize; 10] = [0, 0, 0, 0, 0, 0, 1, 4, 6, 6];
 
 fn needed(first: usize, strides: [usize; 10], room: [usize; 10]) -> usize {
     first + strides.iter().zip(room).map(|(s, n)| s * n).sum::<usize>()
 }
 
-/// The stones of a job, in tables of fixed capacities.
+/// The stones of a job, in tables of fixed capacities, in the hands of one drawing office.
 #[derive(Clone, Debug)]
 pub struct Model {
     room: [usize; 10],
     words: Vec<u32>,
     reals: Vec<f64>,
+    office: Office,
 }
 
 /// Calls that read, and calls that write: the lent memory, then what the call takes.
@@ -83,6 +88,7 @@ impl Model {
             room,
             words: vec![0; needed(11, WORDS, room)],
             reals: vec![0.0; needed(1, REALS, room)],
+            office: Office::default(),
         })
     }
 
@@ -97,9 +103,23 @@ impl Model {
         tell!(model, brunskerl_make(precision, version as u32)).map(|()| model)
     }
 
+    // ---- the office that asks
+
+    /// The same tables in the hands of an office. The handle is moved, so that the offices work on them one after the other, and who is lent a model works for
+    /// the office that it was lent by.
+    pub fn held_by(self, office: Office) -> Self {
+        Self { office, ..self }
+    }
+
+    /// The office in whose hands the model is.
+    pub fn office(&self) -> Office {
+        self.office
+    }
+
     // ---- images: the model as bytes, to be kept
 
-    /// The image of the model; docs/IMAGE.md has the format. One model has one image. The capacities are not in it.
+    /// The image of the model, with the bodies of both offices; docs/IMAGE.md has the format. One model has one image. The capacities are not in it, nor the
+    /// office in whose hands it is.
     ///
     /// It is never refused: a model's memory is written to by the calls alone, which leave it such that it can be read.
     pub fn save(&self) -> Vec<u8> {
@@ -110,11 +130,11 @@ impl Model {
         image
     }
 
-    /// The model of an image, in the largest capacities. [`Refusal::Unreadable`] for bytes that are not exactly one image: cut off, with bytes left over,
+    /// The model of an image, in the largest capacities, in the hands of the first office. [`Refusal::Unreadable`] for bytes that are not exactly one image: cut off, with bytes left over,
     /// or with anything in them that [`Model::save`] does not write.
     ///
     /// An image does not say its capacities: what was refused for want of room may be accepted in these. It says its version: one that names none is of
-    /// [`Version::First`], and so is every image from before there were two.
+    /// [`Version::First`], and so is every image from before there were two. Bodies of an image from before there were offices are the first's.
     ///
     /// Ids are not tested, and an image holds no check sum: what it says of a stone is as sound as the model was that it was made of.
     pub fn load(image: &[u8]) -> Result<Self, Refusal> {
@@ -142,8 +162,9 @@ impl Model {
 
     // ---- inserts: each gives the new record's id
 
+    /// A body of the office.
     pub fn insert_body(&mut self, kind: BodyKind) -> Result<u32, Refusal> {
-        insert!(self, brunskerl_insert_body(&[kind as u32]))
+        insert!(self, brunskerl_insert_body(self.office as u32, &[kind as u32]))
     }
 
     pub fn insert_region(&mut self, region: Region) -> Result<u32, Refusal> {
@@ -188,8 +209,9 @@ impl Model {
 
     // ---- edits: the fields of a record, its lists kept
 
+    /// The body stays its office's.
     pub fn set_body(&mut self, id: u32, kind: BodyKind) -> Result<(), Refusal> {
-        tell!(self, brunskerl_set_body(id as usize, &[kind as u32]))
+        tell!(self, brunskerl_set_body(self.office as u32, id as usize, &[kind as u32]))
     }
 
     pub fn set_region(&mut self, id: u32, region: Region) -> Result<(), Refusal> {
@@ -240,15 +262,18 @@ impl Model {
     // ---- lists
 
     pub fn append(&mut self, list: List, id: u32, entry: u32) -> Result<(), Refusal> {
-        tell!(self, brunskerl_append_entry(list as usize, id as usize, entry))
+        tell!(self, brunskerl_append_entry(self.office as u32, list as usize, id as usize, entry))
     }
 
     pub fn put(&mut self, list: List, id: u32, place: usize, entry: u32) -> Result<(), Refusal> {
-        tell!(self, brunskerl_put_entry(list as usize, id as usize, place, entry))
+        tell!(
+            self,
+            brunskerl_put_entry(self.office as u32, list as usize, id as usize, place, entry)
+        )
     }
 
     pub fn strike(&mut self, list: List, id: u32, place: usize) -> Result<(), Refusal> {
-        tell!(self, brunskerl_strike_entry(list as usize, id as usize, place))
+        tell!(self, brunskerl_strike_entry(self.office as u32, list as usize, id as usize, place))
     }
 
     /// A whole list of a record.
@@ -256,7 +281,10 @@ impl Model {
         let mut entries = Vec::new();
         loop {
             let mut entry = [0];
-            match ask!(self, brunskerl_list_entry(list as usize, id as usize, entries.len(), &mut entry)) {
+            match ask!(
+                self,
+                brunskerl_list_entry(self.office as u32, list as usize, id as usize, entries.len(), &mut entry)
+            ) {
                 0 => entries.push(entry[0]),
                 1 => return Ok(entries),
                 number => Refusal::of(number)?,
@@ -266,16 +294,16 @@ impl Model {
 
     // ---- lookups
 
-    /// Whether there is such a record.
+    /// Whether there is such a record for the office: a body of the other's is none.
     pub fn contains(&self, entity: Entity) -> Result<bool, Refusal> {
         let (table, id) = entity.named();
         let mut value = [0];
-        Refusal::of(ask!(self, brunskerl_contains(table, id as usize, &mut value))).map(|()| value[0] != 0)
+        Refusal::of(ask!(self, brunskerl_contains(self.office as u32, table, id as usize, &mut value))).map(|()| value[0] != 0)
     }
 
     pub fn body(&self, id: u32) -> Result<BodyKind, Refusal> {
         let mut value = [0; 2];
-        Refusal::of(ask!(self, brunskerl_body(id as usize, &mut value)))?;
+        Refusal::of(ask!(self, brunskerl_body(self.office as u32, id as usize, &mut value)))?;
         Ok(records::kind(value[0]))
     }
 
@@ -381,7 +409,15 @@ impl Model {
         self.walked(3, |out, number| {
             ask!(
                 self,
-                brunskerl_body_faces(body as usize, f.as_mut_ptr(), f.len(), out.as_mut_ptr(), out.len(), number)
+                brunskerl_body_faces(
+                    self.office as u32,
+                    body as usize,
+                    f.as_mut_ptr(),
+                    f.len(),
+                    out.as_mut_ptr(),
+                    out.len(),
+                    number
+                )
             )
         })
     }
@@ -392,6 +428,7 @@ impl Model {
             ask!(
                 self,
                 brunskerl_body_edges(
+                    self.office as u32,
                     body as usize,
                     f.as_mut_ptr(),
                     f.len(),
@@ -411,6 +448,7 @@ impl Model {
             ask!(
                 self,
                 brunskerl_body_vertices(
+                    self.office as u32,
                     body as usize,
                     f.as_mut_ptr(),
                     f.len(),
@@ -452,6 +490,7 @@ impl Model {
         Refusal::of(ask!(
             self,
             brunskerl_body_bounding_box(
+                self.office as u32,
                 body as usize,
                 f.as_mut_ptr(),
                 f.len(),
@@ -477,7 +516,7 @@ impl Model {
         let mut volume = [0.0];
         Refusal::of(ask!(
             self,
-            brunskerl_body_volume(body as usize, f.as_mut_ptr(), f.len(), &mut volume)
+            brunskerl_body_volume(self.office as u32, body as usize, f.as_mut_ptr(), f.len(), &mut volume)
         ))?;
         Ok(volume[0])
     }
@@ -496,7 +535,8 @@ impl Model {
 
     /// Splits an edge at a fraction of its length, whole or not at all. A refusal is its number alone.
     ///
-    /// Refused as [`Model::edge_parameter_bounds`] is, and with [`Refusal::BadArgument`] for a fraction that is not above 0 and below 1, for lists
+    /// [`Refusal::NotFound`] for an edge in the walk of a body of the other office; a body of the other's whose walk fails has none. Else
+    /// refused as [`Model::edge_parameter_bounds`] is, and with [`Refusal::BadArgument`] for a fraction that is not above 0 and below 1, for lists
     /// about the edge that do not fit together, and for a face with no surface or whose plane the edge leaves; [`Refusal::Unresolved`] for a fin with a
     /// pcurve, a surface that is no plane, or a distance to it in doubt; [`Refusal::Degenerate`] for a split point that is not finite, or not surely
     /// farther than the precision from both ends; [`Refusal::NoRoom`]. The header has the tests in their order.
@@ -504,7 +544,10 @@ impl Model {
     /// The edge's line must have a direction of length 1 ([`Carrier`]); else the new vertex can lie beyond the edge's end.
     pub fn split_line_edge(&mut self, edge: u32, fraction: f64) -> Result<Split, Refusal> {
         let mut ids = [0; 3];
-        tell!(self, brunskerl_split_line_edge(edge as usize, fraction, &mut ids))?;
+        tell!(
+            self,
+            brunskerl_split_line_edge(self.office as u32, edge as usize, fraction, &mut ids)
+        )?;
         let [_, edge, vertex] = ids;
         Ok(Split { edge, vertex })
     }
@@ -520,6 +563,7 @@ impl Model {
             Refusal::of(ask!(
                 self,
                 brunskerl_check_body(
+                    self.office as u32,
                     body as usize,
                     geometry,
                     samples,
@@ -551,7 +595,15 @@ impl Model {
         let mut fit = [0];
         Refusal::of(ask!(
             self,
-            brunskerl_fit_to_saw(body as usize, f.as_mut_ptr(), f.len(), e.as_mut_ptr(), e.len(), &mut fit)
+            brunskerl_fit_to_saw(
+                self.office as u32,
+                body as usize,
+                f.as_mut_ptr(),
+                f.len(),
+                e.as_mut_ptr(),
+                e.len(),
+                &mut fit
+            )
         ))?;
         Ok(fit[0] != 0)
     }

@@ -33,6 +33,15 @@ impl Version {
     }
 }
 
+/// A drawing office. Two share the tables of a model; each body is one's, and does not exist for the other.
+#[derive(Clone, Copy, Debug, Default, PartialEq, Eq, Hash)]
+#[repr(u32)]
+pub enum Office {
+    #[default]
+    First,
+    Second,
+}
+
 /// A body's kind.
 #[derive(Clone, Copy, Debug, PartialEq, Eq, Hash)]
 #[repr(u32)]

@@ -4,8 +4,9 @@ use crate::layout::{Lent, carrier};
 use crate::operations::Record;
 use crate::ours::{Room, UNTOUCHED, WROTE};
 
+/// Of each table its insert and its set; those of the bodies name an office first.
 macro_rules! edits {
-    ($($insert:ident, $set:ident ($($value:ident: $type:ty),*);)*) => {
+    ($($insert:ident, $set:ident ($($office:ident: u32)? | $($value:ident: $type:ty),*);)*) => {
         #[link(name = "station", kind = "static")]
         unsafe extern "C" {
             $(fn $insert(
@@ -14,6 +15,7 @@ macro_rules! edits {
                 n: usize,
                 reals: *mut f64,
                 m: usize,
+                $($office: u32,)?
                 $($value: *const $type,)*
                 id: *mut [u32; 1],
             ) -> u32;
@@ -23,6 +25,7 @@ macro_rules! edits {
                 n: usize,
                 reals: *mut f64,
                 m: usize,
+                $($office: u32,)?
                 id: usize,
                 $($value: *const $type),*
             ) -> u32;)*
@@ -31,16 +34,16 @@ macro_rules! edits {
 }
 
 edits! {
-    brunskerl_insert_body, brunskerl_set_body(value: [u32; 1]);
-    brunskerl_insert_region, brunskerl_set_region(value: [u32; 2]);
-    brunskerl_insert_shell, brunskerl_set_shell(value: [u32; 1]);
-    brunskerl_insert_face, brunskerl_set_face(value: [u32; 7]);
-    brunskerl_insert_loop, brunskerl_set_loop(value: [u32; 1]);
-    brunskerl_insert_fin, brunskerl_set_fin(value: [u32; 4]);
-    brunskerl_insert_edge, brunskerl_set_edge(value: [u32; 7], floats: [f64; 1]);
-    brunskerl_insert_vertex, brunskerl_set_vertex(value: [u32; 1], floats: [f64; 4]);
-    brunskerl_insert_curve, brunskerl_set_curve(value: [u32; 1], floats: [f64; 6]);
-    brunskerl_insert_surface, brunskerl_set_surface(value: [u32; 1], floats: [f64; 6]);
+    brunskerl_insert_body, brunskerl_set_body(office: u32 | value: [u32; 1]);
+    brunskerl_insert_region, brunskerl_set_region(| value: [u32; 2]);
+    brunskerl_insert_shell, brunskerl_set_shell(| value: [u32; 1]);
+    brunskerl_insert_face, brunskerl_set_face(| value: [u32; 7]);
+    brunskerl_insert_loop, brunskerl_set_loop(| value: [u32; 1]);
+    brunskerl_insert_fin, brunskerl_set_fin(| value: [u32; 4]);
+    brunskerl_insert_edge, brunskerl_set_edge(| value: [u32; 7], floats: [f64; 1]);
+    brunskerl_insert_vertex, brunskerl_set_vertex(| value: [u32; 1], floats: [f64; 4]);
+    brunskerl_insert_curve, brunskerl_set_curve(| value: [u32; 1], floats: [f64; 6]);
+    brunskerl_insert_surface, brunskerl_set_surface(| value: [u32; 1], floats: [f64; 6]);
 }
 
 #[link(name = "station", kind = "static")]
@@ -59,6 +62,7 @@ unsafe extern "C" {
         n: usize,
         reals: *const f64,
         m: usize,
+        office: u32,
         j: usize,
         i: usize,
         place: usize,
@@ -70,6 +74,7 @@ unsafe extern "C" {
         n: usize,
         reals: *const f64,
         m: usize,
+        office: u32,
         j: usize,
         i: usize,
         id: u32,
@@ -80,6 +85,7 @@ unsafe extern "C" {
         n: usize,
         reals: *const f64,
         m: usize,
+        office: u32,
         j: usize,
         i: usize,
         place: usize,
@@ -153,7 +159,7 @@ impl Lent {
     pub fn insert(&mut self, record: &Record) -> Result<u32, u32> {
         let mut id = [UNTOUCHED; 1];
         let number = match (record.table(), fields(record)) {
-            (0, Fields::One(v)) => lent!(self, brunskerl_insert_body, &v, &mut id),
+            (0, Fields::One(v)) => lent!(self, brunskerl_insert_body, self.office, &v, &mut id),
             (1, Fields::Two(v)) => lent!(self, brunskerl_insert_region, &v, &mut id),
             (2, Fields::One(v)) => lent!(self, brunskerl_insert_shell, &v, &mut id),
             (3, Fields::Seven(v)) => lent!(self, brunskerl_insert_face, &v, &mut id),
@@ -174,7 +180,7 @@ impl Lent {
 
     pub fn set(&mut self, id: usize, record: &Record) -> u32 {
         match (record.table(), fields(record)) {
-            (0, Fields::One(v)) => lent!(self, brunskerl_set_body, id, &v),
+            (0, Fields::One(v)) => lent!(self, brunskerl_set_body, self.office, id, &v),
             (1, Fields::Two(v)) => lent!(self, brunskerl_set_region, id, &v),
             (2, Fields::One(v)) => lent!(self, brunskerl_set_shell, id, &v),
             (3, Fields::Seven(v)) => lent!(self, brunskerl_set_face, id, &v),
@@ -193,14 +199,14 @@ impl Lent {
     }
 
     pub fn put_entry(&mut self, j: usize, i: usize, place: usize, id: u32) -> u32 {
-        lent!(self, brunskerl_put_entry, j, i, place, id)
+        lent!(self, brunskerl_put_entry, self.office, j, i, place, id)
     }
 
     pub fn append(&mut self, j: usize, i: usize, id: u32) -> u32 {
-        lent!(self, brunskerl_append_entry, j, i, id)
+        lent!(self, brunskerl_append_entry, self.office, j, i, id)
     }
 
     pub fn strike(&mut self, j: usize, i: usize, place: usize) -> u32 {
-        lent!(self, brunskerl_strike_entry, j, i, place)
+        lent!(self, brunskerl_strike_entry, self.office, j, i, place)
     }
 }

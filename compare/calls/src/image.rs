@@ -11,6 +11,12 @@ pub const MARKS: [&[u8; 2]; 11] = [
     b"PR", b"BO", b"RE", b"SH", b"FA", b"LO", b"FI", b"ED", b"VE", b"CU", b"SU",
 ];
 
+/// The second body mark, of the bodies of office 1; office 0's have the other (W-206).
+pub const SECOND_BODY: &[u8; 2] = b"BP";
+
+/// How many numbers stand before the floats and lists of a record, by table.
+pub const NUMBERS: [usize; 10] = [1, 2, 1, 7, 1, 4, 7, 1, 1, 1];
+
 /// The version's record, with which the image of a model of version 2 begins: its mark, and the number.
 pub const VERSION_MARK: &[u8; 2] = b"VN";
 pub const VERSION_RECORD: [u8; 6] = [0x56, 0x4e, 2, 0, 0, 0];
@@ -30,6 +36,8 @@ const NAN: u64 = 0x7ff8_0000_0000_0000;
 pub struct Body {
     /// 0 to 4.
     pub kind: u32,
+    /// 0 or 1, which the mark alone says.
+    pub office: u32,
     pub regions: Vec<u32>,
 }
 
@@ -197,7 +205,11 @@ impl Writer {
     }
 
     fn body(&mut self, r: &Body) {
-        self.mark(1);
+        if r.office == 0 {
+            self.mark(1);
+        } else {
+            self.bytes.extend_from_slice(SECOND_BODY);
+        }
         self.number(r.kind);
         self.list(&r.regions);
     }
@@ -367,8 +379,13 @@ impl Reader<'_> {
     }
 
     fn body(&mut self) -> Option<Body> {
-        self.mark(1)?;
+        let office = match &self.take()? {
+            mark if mark == MARKS[1] => 0,
+            SECOND_BODY => 1,
+            _ => return None,
+        };
         Some(Body {
+            office,
             kind: self.at_most(4)?,
             regions: self.list(16)?,
         })
@@ -508,7 +525,13 @@ pub fn decode(image: &[u8]) -> Result<Kept, ()> {
 mod tests {
     use super::*;
 
-    /// The page's worked record.
+    /// The page's worked records: a body, and an edge.
+    const WORKED_BODY: [u8; 18] = [
+        0x42, 0x50, //
+        0x03, 0x00, 0x00, 0x00, //
+        0x02, 0x00, 0x00, 0x00, //
+        0x07, 0x00, 0x00, 0x00, 0x02, 0x01, 0x00, 0x00,
+    ];
     const WORKED: [u8; 50] = [
         0x45, 0x44, //
         0x01, 0x00, 0x00, 0x00, 0x03, 0x00, 0x00, 0x00, //
@@ -537,6 +560,7 @@ mod tests {
             precision: 0.001,
             bodies: vec![Body {
                 kind: 3,
+                office: 0,
                 regions: vec![0],
             }],
             regions: vec![Region {
@@ -594,6 +618,22 @@ mod tests {
             assert_eq!(encode(kept), image);
         }
         taken.is_ok()
+    }
+
+    #[test]
+    fn the_worked_body() {
+        let worked = Body {
+            kind: 3,
+            office: 1,
+            regions: vec![7, 258],
+        };
+        let mut to = Writer::default();
+        to.body(&worked);
+        assert_eq!(to.bytes, WORKED_BODY);
+        let mut from = Reader { left: &WORKED_BODY };
+        let body = from.body().expect("a body");
+        assert!(from.left.is_empty());
+        assert_eq!(format!("{body:?}"), format!("{worked:?}"));
     }
 
     #[test]
@@ -721,6 +761,27 @@ mod tests {
             for other in MARKS {
                 assert_eq!(taken(place, other), other == MARKS[k]);
             }
+            assert_eq!(taken(place, SECOND_BODY), k == 1);
+        }
+    }
+
+    /// A body of office 1 has the second body mark, and is as long and says the same besides; what has the first is office 0's.
+    #[test]
+    fn the_offices() {
+        let first = encode(&small());
+        let mut kept = small();
+        kept.bodies[0].office = 1;
+        let second = encode(&kept);
+        assert_eq!(first[FIRST..FIRST + 2], *b"BO");
+        assert_eq!(second[FIRST..FIRST + 2], *b"BP");
+        assert_eq!(first[..FIRST], second[..FIRST]);
+        assert_eq!(first[FIRST + 2..], second[FIRST + 2..]);
+        for (image, office) in [(first, 0), (second, 1)] {
+            let kept = decode(&image).expect("an image");
+            assert_eq!(kept.bodies[0].office, office);
+        }
+        for mark in [b"BQ", b"BN", b"bP", b"PB", b"B\0", b"BR"] {
+            assert!(!taken(FIRST, mark));
         }
     }
 

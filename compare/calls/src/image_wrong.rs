@@ -1,7 +1,9 @@
 //! Wrong stations for the images: each does as the station does and then alters the answer, the bytes or the memory. The comparison must see
 //! every one of them.
 
-use crate::image::{Carrier, Kept, MARKS, MOST, VERSION_MARK, VERSION_RECORD, begins, encode};
+use crate::image::{
+    Carrier, Kept, MARKS, MOST, SECOND_BODY, VERSION_MARK, VERSION_RECORD, begins, encode,
+};
 use crate::images::{How, expected, put};
 use crate::layout::{LISTS, Lent, VERSION};
 
@@ -73,7 +75,22 @@ fn as_second(rest: &[u8]) -> Vec<u8> {
     [&VERSION_RECORD[..], rest].concat()
 }
 
-pub const WRONGS: [(&str, How); 57] = [
+/// Where the office of each body that is there stands among the words.
+fn offices(lent: &Lent) -> Vec<usize> {
+    let bodies = 0..lent.words[0] as usize;
+    bodies.map(|i| lent.word_at(0, i) + 1).collect()
+}
+
+/// Puts a mark over that of each body that something is so of.
+fn marked(lent: &Lent, bytes: &mut [u8], mark: &[u8; 2], is_so: fn(u32) -> bool) {
+    for (i, at) in offices(lent).into_iter().enumerate() {
+        if is_so(lent.words[at]) {
+            put(bytes, place(lent, 0, i), mark);
+        }
+    }
+}
+
+pub const WRONGS: [(&str, How); 66] = [
     (
         "gives a length one too great",
         How::Length(|_, number, length| {
@@ -649,6 +666,91 @@ pub const WRONGS: [(&str, How); 57] = [
                 *word = if image.starts_with(VERSION_MARK) { 2 } else { 1 };
             }
             number
+        }),
+    ),
+    (
+        "writes both offices under one mark",
+        How::Write(|lent, number, bytes, _| {
+            if number == 0 {
+                marked(lent, bytes, MARKS[1], |_| true);
+            }
+            number
+        }),
+    ),
+    (
+        "exchanges the offices' marks",
+        How::Write(|lent, number, bytes, _| {
+            if number == 0 {
+                marked(lent, bytes, SECOND_BODY, |office| office == 0);
+                marked(lent, bytes, MARKS[1], |office| office == 1);
+            }
+            number
+        }),
+    ),
+    (
+        "writes a model of two offices under the second mark",
+        How::Write(|lent, number, bytes, _| {
+            if number == 0 && offices(lent).iter().any(|&at| lent.words[at] == 1) {
+                marked(lent, bytes, SECOND_BODY, |_| true);
+            }
+            number
+        }),
+    ),
+    (
+        "gives a length with a number for each office",
+        How::Length(|lent, number, length| {
+            if number == 0 {
+                *length += 4 * offices(lent).len();
+            }
+            number
+        }),
+    ),
+    (
+        "reads every body as office 0's",
+        How::Read(|_, number, lent, _| {
+            if number == 0 {
+                offices(lent).into_iter().for_each(|at| lent.words[at] = 0);
+            }
+            number
+        }),
+    ),
+    (
+        "leaves the offices as they were",
+        How::Read(|before, number, lent, _| {
+            if number == 0 {
+                for at in offices(lent) {
+                    lent.words[at] = before.words[at];
+                }
+            }
+            number
+        }),
+    ),
+    (
+        "refuses the second body mark",
+        How::Read(|before, number, lent, _| {
+            refuses(before, number, lent, |kept| {
+                kept.bodies.iter().any(|body| body.office == 1)
+            })
+        }),
+    ),
+    (
+        "takes any mark that begins with B for a body's",
+        How::Read(|_, number, lent, image| {
+            mended(number, lent, image, |other, at| {
+                let is_so = other[at] == b'B' && other.len() > at + 1;
+                put(other, at, if is_so { SECOND_BODY } else { &[] });
+                is_so
+            })
+        }),
+    ),
+    (
+        "takes the second body mark for a region's",
+        How::Read(|_, number, lent, image| {
+            mended(number, lent, image, |other, at| {
+                let is_so = other[at..].starts_with(SECOND_BODY);
+                put(other, at, if is_so { MARKS[2] } else { &[] });
+                is_so
+            })
         }),
     ),
 ];

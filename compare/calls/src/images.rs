@@ -178,6 +178,7 @@ impl Kept {
         let fields = |k: usize, i: usize| &lent.words[lent.word_at(k, i)..];
         let body = |i| Body {
             kind: fields(0, i)[0],
+            office: fields(0, i)[1],
             regions: list(lent, 0, i),
         };
         let region = |i| Region {
@@ -274,7 +275,7 @@ impl Kept {
         lent.words[VERSION] = self.version as u32;
         lent.reals[0] = self.precision;
         for (i, r) in self.bodies.iter().enumerate() {
-            put_record(lent, 0, i, &[r.kind], &[]);
+            put_record(lent, 0, i, &[r.kind, r.office], &[]);
             put_list(lent, 0, i, &r.regions);
         }
         for (i, r) in self.regions.iter().enumerate() {

@@ -11,13 +11,13 @@ pub const VERSION: usize = 10;
 const TABLES: usize = 11;
 
 /// How many words and floats a record takes, by table.
-const WORDS: [usize; 10] = [18, 19, 836, 24, 1026, 4, 16, 1, 1, 1];
+const WORDS: [usize; 10] = [19, 19, 836, 24, 1026, 4, 16, 1, 1, 1];
 const REALS: [usize; 10] = [0, 0, 0, 0, 0, 0, 1, 4, 6, 6];
 
 /// The eight lists: the table, the place of the length in its records, the limit, and the table that the
 /// entries are of.
 pub const LISTS: [(usize, usize, usize, usize); 8] = [
-    (0, 1, 16, 1),
+    (0, 2, 16, 1),
     (1, 2, 16, 2),
     (2, 1, 512, 3),
     (2, 514, 256, 6),
@@ -27,16 +27,17 @@ pub const LISTS: [(usize, usize, usize, usize); 8] = [
     (6, 7, 8, 5),
 ];
 
-/// What a caller lends: the capacities, the words, the floats.
+/// What a caller lends: the capacities, the words, the floats. And the office that the calls name (W-206), which is no part of the memory.
 #[derive(Clone)]
 pub struct Lent {
     pub room: [usize; 10],
     pub words: Vec<u32>,
     pub reals: Vec<f64>,
+    pub office: u32,
 }
 
 impl PartialEq for Lent {
-    /// By bits, where every NaN counts as the same.
+    /// The memory by bits, where every NaN counts as the same.
     fn eq(&self, other: &Self) -> bool {
         let bits = |x: &f64| models::plain::bits(*x);
         self.room == other.room
@@ -48,7 +49,7 @@ impl PartialEq for Lent {
 /// Of each tag in the records of a table: its place and the greatest that is known.
 pub fn tags(k: usize) -> &'static [(usize, u32)] {
     match k {
-        0 => &[(0, 4)],
+        0 => &[(0, 4), (1, 1)],
         1 => &[(1, 1)],
         3 => &[(0, 1), (2, 1), (4, 1), (6, 1)],
         5 => &[(2, 1), (3, 1)],
@@ -79,6 +80,15 @@ impl Lent {
             room,
             words: vec![word; needed(TABLES, &WORDS, &room)],
             reals: vec![real; needed(1, &REALS, &room)],
+            office: 0,
+        }
+    }
+
+    /// The same memory, asked by an office.
+    pub fn by(&self, office: u32) -> Self {
+        Self {
+            office,
+            ..self.clone()
         }
     }
 
@@ -109,9 +119,11 @@ impl Lent {
         }
     }
 
-    /// The model in memory of these capacities, which holds noise wherever nothing is said of it.
+    /// The model in memory of these capacities, which holds noise wherever nothing is said of it. The calls name the office of its first body, which is that of
+    /// all where the model is one office's.
     pub fn holding(plain: &Plain, room: [usize; 10], word: u32, real: f64) -> Self {
         let mut lent = Self::new(room, word, real);
+        lent.office = plain.bodies.first().map_or(0, |r| r.office);
         for (k, n) in plain.used().into_iter().enumerate() {
             lent.words[k] = n as u32;
         }
@@ -121,7 +133,7 @@ impl Lent {
         let own = |t: Option<f64>| (u32::from(t.is_some()), t.unwrap_or(0.0));
         let sense = |positive: bool| u32::from(!positive);
         for (i, r) in plain.bodies.iter().enumerate() {
-            lent.put(0, i, &[r.kind as u32], &[]);
+            lent.put(0, i, &[r.kind as u32, r.office], &[]);
             lent.put_list(0, i, &r.regions);
         }
         for (i, r) in plain.regions.iter().enumerate() {
@@ -175,13 +187,15 @@ impl Lent {
     /// The part of 01's test that asks nothing of what the memory holds: capacities that 01 has, and memory that is
     /// long enough for them.
     pub fn spacious(&self) -> bool {
-        let Self { room, words, reals } = self;
+        let Self {
+            room, words, reals, ..
+        } = self;
         room.iter().zip(LARGEST).all(|(&n, most)| n <= most)
             && words.len() >= needed(TABLES, &WORDS, room)
             && reals.len() >= needed(1, &REALS, room)
     }
 
-    /// 01's test of refusal 9, and W-211's: a version that no model is made with.
+    /// 01's test of refusal 9, and W-211's: a version that no model is made with; and W-206's: an office that is none, a tag as others are.
     pub fn readable(&self) -> bool {
         if !self.spacious() || (0..10).any(|k| self.words[k] as usize > self.room[k]) {
             return false;

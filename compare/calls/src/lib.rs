@@ -7,6 +7,8 @@ pub mod images;
 pub mod layout;
 pub mod measures;
 pub mod noise;
+pub mod office_wrong;
+pub mod offices;
 pub mod operations;
 pub mod ours;
 pub mod queries;

@@ -1,6 +1,6 @@
 //! The station's larger calls, as a C program links them: splits, boxes, volumes and the checker. Each answer is numbers: 0 and the value's, or the refusal alone.
 
-use models::plain::bits;
+use models::plain::{Plain, bits};
 
 use crate::layout::Lent;
 use crate::ours::{Room, UNTOUCHED, UNTOUCHED_REAL, WROTE, answer};
@@ -13,6 +13,7 @@ unsafe extern "C" {
         n: usize,
         reals: *mut f64,
         m: usize,
+        office: u32,
         edge: usize,
         fraction: f64,
         value: *mut [u32; 3],
@@ -23,6 +24,7 @@ unsafe extern "C" {
         n: usize,
         reals: *const f64,
         m: usize,
+        office: u32,
         body: usize,
         faces: *mut u8,
         f: usize,
@@ -38,6 +40,7 @@ unsafe extern "C" {
         n: usize,
         reals: *const f64,
         m: usize,
+        office: u32,
         body: usize,
         faces: *mut u8,
         f: usize,
@@ -49,6 +52,7 @@ unsafe extern "C" {
         n: usize,
         reals: *const f64,
         m: usize,
+        office: u32,
         body: usize,
         geometry: u32,
         samples: usize,
@@ -66,6 +70,7 @@ unsafe extern "C" {
         n: usize,
         reals: *const f64,
         m: usize,
+        office: u32,
         body: usize,
         faces: *mut u8,
         f: usize,
@@ -90,6 +95,24 @@ fn cleared(marks: &[Vec<u8>], answer: Vec<u64>) -> Vec<u64> {
     answer
 }
 
+/// 01's test 13: slots in the tables and in the lists concerned.
+pub fn has_slots(plain: &Plain, room: &[usize; 10], edge: usize) -> bool {
+    let used = plain.used();
+    let fins = &plain.edges[edge].fins;
+    let listed = |list: &[usize], ids: &[usize]| ids.iter().filter(|id| list.contains(id)).count();
+    used[5] + fins.len() <= room[5]
+        && used[6] < room[6]
+        && used[7] < room[7]
+        && plain
+            .loops
+            .iter()
+            .all(|r| r.fins.len() + listed(&r.fins, fins) <= 1024)
+        && plain
+            .shells
+            .iter()
+            .all(|r| r.wire_edges.len() + listed(&r.wire_edges, &[edge]) <= 256)
+}
+
 impl Lent {
     /// The number, and both edges and the vertex.
     pub fn split_alone(&mut self, edge: usize, fraction: f64) -> (u32, [u32; 3]) {
@@ -102,6 +125,7 @@ impl Lent {
                 self.words.len(),
                 self.reals.as_mut_ptr(),
                 self.reals.len(),
+                self.office,
                 edge,
                 fraction,
                 &mut value,
@@ -123,13 +147,17 @@ impl Lent {
     }
 
     /// Marks of faces, edges and vertices, lent full.
-    fn marks(&self, mark: u8) -> [Vec<u8>; 3] {
+    pub fn marks(&self, mark: u8) -> [Vec<u8>; 3] {
         [3, 6, 7].map(|k| vec![mark; self.room[k]])
     }
 
     /// The bits of both corners.
     pub fn bounding_box(&self, body: usize, mark: u8) -> Vec<u64> {
-        let mut marks = self.marks(mark);
+        self.bounding_box_with(body, self.marks(mark))
+    }
+
+    /// The same with these marks.
+    pub fn bounding_box_with(&self, body: usize, mut marks: [Vec<u8>; 3]) -> Vec<u64> {
         let [faces, edges, vertices] = &mut marks;
         let mut value = [UNTOUCHED_REAL; 6];
         // SAFETY: the call reads the lent memory, writes to the marks and the value, and keeps no address.
@@ -140,6 +168,7 @@ impl Lent {
                 self.words.len(),
                 self.reals.as_ptr(),
                 self.reals.len(),
+                self.office,
                 body,
                 faces.as_mut_ptr(),
                 faces.len(),
@@ -158,7 +187,11 @@ impl Lent {
     }
 
     pub fn volume(&self, body: usize, mark: u8) -> Vec<u64> {
-        let mut marks = self.marks(mark);
+        self.volume_with(body, self.marks(mark))
+    }
+
+    /// The same with these marks.
+    pub fn volume_with(&self, body: usize, mut marks: [Vec<u8>; 3]) -> Vec<u64> {
         let faces = &mut marks[0];
         let mut value = [UNTOUCHED_REAL; 1];
         // SAFETY: as above.
@@ -169,6 +202,7 @@ impl Lent {
                 self.words.len(),
                 self.reals.as_ptr(),
                 self.reals.len(),
+                self.office,
                 body,
                 faces.as_mut_ptr(),
                 faces.len(),
@@ -190,7 +224,18 @@ impl Lent {
         places: usize,
         mark: u8,
     ) -> (Vec<u64>, usize) {
-        let mut marks = self.marks(mark);
+        self.check_with(body, geometry, samples, places, self.marks(mark))
+    }
+
+    /// The same with these marks.
+    pub fn check_with(
+        &self,
+        body: usize,
+        geometry: bool,
+        samples: usize,
+        places: usize,
+        mut marks: [Vec<u8>; 3],
+    ) -> (Vec<u64>, usize) {
         let [faces, edges, _] = &mut marks;
         let mut list = vec![UNTOUCHED; 4 * places];
         let mut value = [usize::MAX; 3];
@@ -202,6 +247,7 @@ impl Lent {
                 self.words.len(),
                 self.reals.as_ptr(),
                 self.reals.len(),
+                self.office,
                 body,
                 geometry.into(),
                 samples,
@@ -235,7 +281,11 @@ impl Lent {
 
     /// 1 where the body is fit to saw.
     pub fn fit(&self, body: usize, mark: u8) -> Vec<u64> {
-        let mut marks = self.marks(mark);
+        self.fit_with(body, self.marks(mark))
+    }
+
+    /// The same with these marks.
+    pub fn fit_with(&self, body: usize, mut marks: [Vec<u8>; 3]) -> Vec<u64> {
         let [faces, edges, _] = &mut marks;
         let mut value = [UNTOUCHED; 1];
         // SAFETY: as above.
@@ -246,6 +296,7 @@ impl Lent {
                 self.words.len(),
                 self.reals.as_ptr(),
                 self.reals.len(),
+                self.office,
                 body,
                 faces.as_mut_ptr(),
                 faces.len(),

@@ -27,8 +27,8 @@ pub const BORDERS: [u64; 16] = [
     0x3ff0_0000_0000_0000,
 ];
 
-/// How many numbers stand before the lists of a record, by table, in the words and in an image.
-pub const FIELDS: [usize; 10] = [1, 2, 1, 7, 1, 4, 7, 1, 1, 1];
+/// How many numbers stand before the lists of a record, by table, in the words.
+const FIELDS: [usize; 10] = [2, 2, 1, 7, 1, 4, 7, 1, 1, 1];
 
 fn float(random: &mut Random) -> f64 {
     match random.below(4) {
@@ -126,7 +126,8 @@ pub fn wild(random: &mut Random) -> Lent {
     lent
 }
 
-fn record(lent: &mut Lent, k: usize, i: usize, random: &mut Random) {
+/// Any readable record in a slot.
+pub fn record(lent: &mut Lent, k: usize, i: usize, random: &mut Random) {
     let at = lent.word_at(k, i);
     for place in 0..FIELDS[k] {
         lent.words[at + place] = id(random);
@@ -276,6 +277,12 @@ pub fn shaped(random: &mut Random) -> (Lent, String) {
         }
     }
     plain.version = random.pick(&[Version::First, Version::Second]);
+    let offices: Vec<u32> = plain
+        .bodies
+        .iter()
+        .map(|_| random.below(2) as u32)
+        .collect();
+    plain = plain.of(&offices);
     let tight = Lent::holding(&plain, plain.used(), 0, 0.0);
     if !tight.readable() {
         return (tight, told);

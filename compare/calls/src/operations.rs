@@ -93,7 +93,7 @@ impl Record {
 }
 
 /// List j of record i.
-fn list(plain: &Plain, j: usize, i: usize) -> &[usize] {
+pub fn list(plain: &Plain, j: usize, i: usize) -> &[usize] {
     match j {
         0 => &plain.bodies[i].regions,
         1 => &plain.regions[i].shells,

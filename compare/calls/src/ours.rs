@@ -19,12 +19,23 @@ unsafe extern "C" {
         precision: f64,
         version: u32,
     ) -> u32;
+    fn brunskerl_body(
+        room: Room,
+        words: *const u32,
+        n: usize,
+        reals: *const f64,
+        m: usize,
+        office: u32,
+        id: usize,
+        value: *mut [u32; 2],
+    ) -> u32;
     fn brunskerl_list_entry(
         room: Room,
         words: *const u32,
         n: usize,
         reals: *const f64,
         m: usize,
+        office: u32,
         j: usize,
         i: usize,
         place: usize,
@@ -127,6 +138,9 @@ pub const WRONG_ID: u32 = 1001;
 /// Nor this: a version that is none was given.
 pub const WRONG_VERSION: u32 = 1002;
 
+/// Nor this: both offices were told a body.
+pub const BOTH_OFFICES: u32 = 1003;
+
 /// The value, or the refusal's number where the slots are as they were.
 pub fn answer<T>(number: u32, value: T, untouched: bool) -> Result<T, u32> {
     match (number, untouched) {
@@ -137,7 +151,6 @@ pub fn answer<T>(number: u32, value: T, untouched: bool) -> Result<T, u32> {
 }
 
 lookups! {
-    body_value = brunskerl_body, 2;
     region_value = brunskerl_region, 3;
     shell_value = brunskerl_shell, 4;
     face_value = brunskerl_face, 8;
@@ -223,7 +236,30 @@ impl Lent {
         answer(number, value[0], value == [UNTOUCHED; 1])
     }
 
+    /// Kind and number of regions, as the office is told them.
+    pub fn body_value(&self, office: u32, id: usize) -> Result<[u32; 2], u32> {
+        let mut value = [UNTOUCHED; 2];
+        // SAFETY: as above.
+        let number = unsafe {
+            brunskerl_body(
+                &self.room,
+                self.words.as_ptr(),
+                self.words.len(),
+                self.reals.as_ptr(),
+                self.reals.len(),
+                office,
+                id,
+                &mut value,
+            )
+        };
+        answer(number, value, value == [UNTOUCHED; 2])
+    }
+
     pub fn entry(&self, j: usize, i: usize, place: usize) -> Result<u32, u32> {
+        self.entry_by(self.office, j, i, place)
+    }
+
+    fn entry_by(&self, office: u32, j: usize, i: usize, place: usize) -> Result<u32, u32> {
         let mut value = [UNTOUCHED; 1];
         // SAFETY: as above.
         let number = unsafe {
@@ -233,6 +269,7 @@ impl Lent {
                 self.words.len(),
                 self.reals.as_ptr(),
                 self.reals.len(),
+                office,
                 j,
                 i,
                 place,
@@ -244,11 +281,15 @@ impl Lent {
 
     /// A list as its length and the lookup of each entry; the next place must not be there.
     fn list(&self, j: usize, i: usize, n: u32) -> Result<Vec<usize>, u32> {
+        self.list_by(self.office, j, i, n)
+    }
+
+    fn list_by(&self, office: u32, j: usize, i: usize, n: u32) -> Result<Vec<usize>, u32> {
         let mut list = Vec::new();
         for place in 0..n as usize {
-            list.push(self.entry(j, i, place)? as usize);
+            list.push(self.entry_by(office, j, i, place)? as usize);
         }
-        match self.entry(j, i, n as usize) {
+        match self.entry_by(office, j, i, n as usize) {
             Err(1) => Ok(list),
             Err(number) => Err(number),
             Ok(_) => Err(WROTE),
@@ -261,7 +302,7 @@ impl Lent {
             answer.err().unwrap_or(0)
         }
         [
-            number(self.body_value(id)),
+            number(self.body_value(self.office, id)),
             number(self.region_value(id)),
             number(self.shell_value(id)),
             number(self.face_value(id)),
@@ -274,6 +315,16 @@ impl Lent {
         ]
     }
 
+    /// A body by the office that is told it: the other must be told that there is none.
+    fn owned(&self, id: usize) -> Result<(u32, [u32; 2]), u32> {
+        match [0, 1].map(|office| self.body_value(office, id)) {
+            [Ok(value), Err(2)] => Ok((0, value)),
+            [Err(2), Ok(value)] => Ok((1, value)),
+            [Err(number), Err(_)] | [Ok(_), Err(number)] | [Err(number), Ok(_)] => Err(number),
+            [Ok(_), Ok(_)] => Err(BOTH_OFFICES),
+        }
+    }
+
     /// All tables, by the calls alone; or the first refusal that is not expected.
     pub fn read(&self) -> Result<Plain, u32> {
         Ok(Plain {
@@ -284,10 +335,11 @@ impl Lent {
             },
             precision: self.precision()?,
             bodies: all(|i| {
-                let [kind, n] = self.body_value(i)?;
+                let (office, [kind, n]) = self.owned(i)?;
                 Ok(Body {
                     kind: Kind::ALL[kind as usize],
-                    regions: self.list(0, i, n)?,
+                    office,
+                    regions: self.list_by(office, 0, i, n)?,
                 })
             })?,
             regions: all(|i| {

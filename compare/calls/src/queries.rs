@@ -32,6 +32,7 @@ unsafe extern "C" {
         n: usize,
         reals: *const f64,
         m: usize,
+        office: u32,
         class: u32,
         id: usize,
         value: *mut [u32; 1],
@@ -110,7 +111,7 @@ impl Query {
             }
             Self::Contains(class, id) => {
                 let mut value = [UNTOUCHED; 1];
-                let number = asked!(lent, brunskerl_contains, class, id, &mut value);
+                let number = asked!(lent, brunskerl_contains, lent.office, class, id, &mut value);
                 numbers(answer(number, value, value == [UNTOUCHED; 1]), |[yes]| {
                     vec![yes.into()]
                 })

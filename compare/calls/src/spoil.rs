@@ -69,7 +69,7 @@ pub fn spoil(lent: &mut Lent, random: &mut Random) -> &'static str {
         }
         (_, Some(i)) => {
             // Any of the first words of a record: its tags stand there, and ids, of which nothing is asked.
-            let place = random.below([1, 2, 1, 7, 1, 4, 7, 1, 1, 1][k]);
+            let place = random.below([2, 2, 1, 7, 1, 4, 7, 1, 1, 1][k]);
             let at = lent.word_at(k, i) + place;
             lent.words[at] = random.pick(&[0, 1, 2, 3, 4, 5, 6, u32::MAX]);
             "a field of a record"

@@ -2,6 +2,7 @@
 
 pub mod around;
 pub mod damage;
+pub mod offices;
 pub mod original;
 pub mod plain;
 pub mod random;
@@ -28,7 +29,7 @@ pub struct Made {
 pub enum Sort {
     /// One body or two, of a size that the prover evaluates.
     Small,
-    /// Up to five bodies, larger ones among them, with ids above every table.
+    /// Up to five bodies, larger ones among them, with ids above every table, all of office 0 or all of office 1.
     Several,
 }
 
@@ -59,9 +60,12 @@ pub fn made(
     }
     if sort == Sort::Several {
         damage::stray(&mut plain, &mut random);
+        let office = Random::new(seed, number, 60).below(2) as u32;
+        plain = plain.of(&[office; 5]);
     }
     let model = original::build(&mut plain, names).ok()?;
-    assert_eq!(original::read(&model, names).numbers(), plain.numbers());
+    let read = original::read(&model, names).of(&plain.offices());
+    assert_eq!(read.numbers(), plain.numbers());
     Some(Made {
         model,
         plain,

@@ -8,10 +8,10 @@
 
 use std::collections::BTreeMap;
 use std::fs;
-use std::slice;
 
 use gensolid_topo::Model;
 
+use models::offices::{body_for, edge_for};
 use models::original::{self, Names, Told};
 use models::plain::{self, Plain, Version, bits, list};
 use models::random::Random;
@@ -24,9 +24,9 @@ use mathlib.Core.List.{List, [], _∷_}
 use mathlib.Core.Option.{none, some}
 use Rattle.geom_lines_planes.specs.declared.tolerance.Tolerance.the-variants.{Session}
 use Rattle.geom_lines_planes.specs.declared.tolerance.Version.the-variants.{First, Second}
-use Rattle.meaning.specs.Model.{Model, acorn, wire, sheet, solid, general, positive, negative}
+use Rattle.meaning.specs.Model.{Model, office-0, office-1, acorn, wire, sheet, solid, general, positive, negative}
 use Rattle.meaning.specs.Computing.{computing}
-use Rattle.meaning.specs.Shown.{own, at, bodyR, regionR, shellR, faceR, loopR, finR, edgeR, vertexR, lineR, planeR, otherR, modelR, tables, faces, edges, vertices, ends, box, volume, report, bounds, split, behind}
+use Rattle.meaning.specs.Shown.{own, at, bodyR, regionR, shellR, faceR, loopR, finR, edgeR, vertexR, lineR, planeR, otherR, modelR, tables, faces, edges, vertices, ends, box, volume, report, bounds, split, behind, edgesFor, splitFor, behindFor}
 ";
 
 fn numbers(list: &[u64]) -> String {
@@ -123,6 +123,7 @@ impl Writer {
             reports.push((call, found.numbers));
         }
         self.answers(name, "walks", &walks);
+        self.offices(asked, random);
         self.answers(name, "box", &boxes);
         self.answers(name, "volume", &volumes);
         self.answers(name, "topology", &reports);
@@ -165,6 +166,24 @@ impl Writer {
             .collect();
         self.answers(name, "ends", &ends);
         self.splits(asked, random);
+    }
+
+    /// The walk of edges of the same bodies, by one of the offices.
+    fn offices(&mut self, asked: &Asked, random: &mut Random) {
+        let Asked {
+            name, model, plain, ..
+        } = asked;
+        let office = random.below(2) as u32;
+        let mut rows = Vec::new();
+        for body in 0..=plain.bodies.len() {
+            let seen = body_for(plain, office, body);
+            let [_, found, _] = original::walks(model, &self.names, seen);
+            if seen != body {
+                self.counts.add("offices", "a body of the other's");
+            }
+            rows.push((format!("edgesFor {name} {office} {body}"), found.numbers));
+        }
+        self.answers(name, "office", &rows);
     }
 
     /// The model once more, of version 2, with own tolerances on either side of the session's.
@@ -222,8 +241,26 @@ impl Writer {
             let refused = found.refused();
             let call = format!("{name} {edge} 0x{:x}", bits(fraction));
             let row = self.counts.answer("split", format!("split {call}"), found);
-            self.answers(name, &format!("split-{number}"), slice::from_ref(&row));
-            let behind = original::read(&after, &self.names);
+            // And by an office, or by one that is none.
+            let office = random.pick(&[0, 0, 0, 1, 1, 1, 2]);
+            let seen = edge_for(model, &self.names, plain, office, edge);
+            let mut found = original::split(&mut (*model).clone(), &self.names, seen, fraction);
+            let case = match office {
+                2 => "a split by an office above 1",
+                _ if seen == edge => "a split of its own",
+                _ => "a split of the other's",
+            };
+            self.counts.add("offices", case);
+            if office > 1 {
+                found.numbers = vec![1];
+            }
+            let by_office = format!("{name} {office} {edge} 0x{:x}", bits(fraction));
+            let rows = [
+                row.clone(),
+                (format!("splitFor {by_office}"), found.numbers),
+            ];
+            self.answers(name, &format!("split-{number}"), &rows);
+            let behind = original::read(&after, &self.names).of(&plain.offices());
             if refused {
                 assert_eq!(
                     behind.numbers(),
@@ -236,7 +273,13 @@ impl Writer {
             }
             shown[usize::from(refused)] = true;
             let what = format!("behind-{number}");
-            self.statement(name, &what, &format!("behind {call}"), &tables(&behind));
+            // What the office may do leaves the same.
+            let call = if office < 2 && seen == edge {
+                format!("behindFor {by_office}")
+            } else {
+                format!("behind {call}")
+            };
+            self.statement(name, &what, &call, &tables(&behind));
             if !refused && asked.follow {
                 self.counts.add("models", "behind a split");
                 let asked = Asked {
@@ -273,7 +316,7 @@ fn main() {
     let mut done = 0;
     let mut next = first;
     while done < count {
-        let Some(made) = made(&writer.names, Sort::Small, seed, next, kept.as_deref()) else {
+        let Some(mut made) = made(&writer.names, Sort::Small, seed, next, kept.as_deref()) else {
             next += 1;
             assert!(
                 kept.is_none() || next < first + 1000,
@@ -290,6 +333,9 @@ fn main() {
             },
         );
         writer.text += &format!("\n-- model {next}: {}\n", made.told.join("; "));
+        let mut random = Random::new(seed, next, 102);
+        let offices = [(); 2].map(|()| random.below(2) as u32);
+        made.plain = made.plain.of(&offices);
         let mut random = Random::new(seed, next, 100);
         let asked = Asked {
             name: format!("model-{next}"),

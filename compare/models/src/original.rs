@@ -284,7 +284,7 @@ fn all<T, R>(names: &Ids<T>, read: impl Fn(Id<T>) -> Option<R>) -> Vec<R> {
     names.0.iter().map_while(|&id| read(id)).collect()
 }
 
-/// All tables of the Rust's model, and the version that it is asked by.
+/// All tables of the Rust's model, and the version that it is asked by. The Rust has no offices; every body is of office 0.
 pub fn read(model: &Model, names: &Names) -> Plain {
     let three = |p: Point3| [p.x, p.y, p.z];
     let way = |v: Vec3| [v.x, v.y, v.z];
@@ -297,6 +297,7 @@ pub fn read(model: &Model, names: &Names) -> Plain {
             let kind = KINDS.iter().find(|k| k.1 == r.kind).expect("five kinds").0;
             Some(plain::Body {
                 kind,
+                office: 0,
                 regions: slots(&r.regions),
             })
         }),

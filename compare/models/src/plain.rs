@@ -19,6 +19,8 @@ pub enum Kind {
 #[derive(Clone, Debug)]
 pub struct Body {
     pub kind: Kind,
+    /// 0 or 1 (W-206).
+    pub office: u32,
     pub regions: Vec<usize>,
 }
 
@@ -125,6 +127,19 @@ impl Plain {
         ]
     }
 
+    /// The office of each body (W-206).
+    pub fn offices(&self) -> Vec<u32> {
+        self.bodies.iter().map(|r| r.office).collect()
+    }
+
+    /// The model with these offices of its bodies: the Rust has none, and what is read from it is office 0's until it is said.
+    pub fn of(mut self, offices: &[u32]) -> Self {
+        for (r, &office) in self.bodies.iter_mut().zip(offices) {
+            r.office = office;
+        }
+        self
+    }
+
     /// Every id that is stored, with the number of its table.
     pub fn ids(&mut self, mut visit: impl FnMut(usize, &mut usize)) {
         let mut each = |class: usize, ids: &mut dyn Iterator<Item = &mut usize>| {
@@ -229,7 +244,8 @@ impl Plain {
         [
             format!("modelR {:?} {}", self.version, float(self.precision)),
             table(&self.bodies, |r| {
-                format!("bodyR {} {}", r.kind.name(), list(&r.regions))
+                let kind = r.kind.name();
+                format!("bodyR {kind} office-{} {}", r.office, list(&r.regions))
             }),
             table(&self.regions, |r| {
                 format!("regionR {} {} {}", r.body, r.solid, list(&r.shells))
@@ -313,7 +329,8 @@ impl Plain {
         vec![
             vec![vec![self.version as u64, bits(self.precision)]],
             rows(&self.bodies, |r| {
-                [vec![r.kind as u64], counted(&r.regions)].concat()
+                let fields = vec![r.kind as u64, r.office.into()];
+                [fields, counted(&r.regions)].concat()
             }),
             rows(&self.regions, |r| {
                 [vec![r.body as u64, r.solid.into()], counted(&r.shells)].concat()

@@ -185,6 +185,7 @@ impl Plain {
     fn body(&mut self, kind: Kind) -> usize {
         self.bodies.push(Body {
             kind,
+            office: 0,
             regions: vec![],
         });
         self.bodies.len() - 1

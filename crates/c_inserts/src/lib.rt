@@ -7,7 +7,6 @@ use c_values::tags::fin_known;
 use c_values::tags::own_known;
 use c_values::tags::point_of;
 use c_values::tags::region_known;
-use c_values::unknown_tag;
 use edit_inserts::insert_body;
 use edit_inserts::insert_curve;
 use edit_inserts::insert_edge;
@@ -38,6 +37,7 @@ use memory_layout::names::AT_SHELL_REGION;
 use memory_layout::names::AT_VERTEX_TOLERANCE;
 use memory_layout::names::FLOAT_EDGE_TOLERANCE;
 use memory_layout::names::FLOAT_VERTEX_TOLERANCE;
+use memory_readable::unknown_tag;
 use memory_records::records::carrier_of;
 use memory_records::records::kind_of;
 use memory_records::records::ref_at;
@@ -51,7 +51,7 @@ ghost use Rattle.memory_layout.specs.Layout.{word};
 ghost use Rattle.memory_writes.specs.Put.{unlessRefused};
 ghost use Rattle.edit_core.specs.Answers.{insertNumber, insertWords, insertReals};
 ghost use Rattle.c_lent.specs.Lent.{was, lent};
-ghost use Rattle.c_values.specs.Given.{bodyKnown, regionKnown, faceKnown, finKnown, carrierKnown, bodyGiven, regionGiven, shellGiven, faceGiven, loopGiven, finGiven, carrierGiven, carrierOwn, edgeGood, vertexGood, edgeGiven, vertexGiven, edgeOwn, vertexOwn};
+ghost use Rattle.c_values.specs.Given.{bodyIn, regionKnown, faceKnown, finKnown, carrierKnown, bodyGiven, regionGiven, shellGiven, faceGiven, loopGiven, finGiven, carrierGiven, carrierOwn, edgeGood, vertexGood, edgeGiven, vertexGiven, edgeOwn, vertexOwn};
 
 pub fn edge(
     room: &[usize; 10],
@@ -104,19 +104,20 @@ pub fn body(
     room: &[usize; 10],
     words: &mut [u32],
     reals: &mut [f64],
+    office: u32,
     value: &[u32; 1],
     id: &mut [u32; 1],
 ) -> u32
-    ensures answer { λ r. ⌜ r ≡ lent insertNumber room words reals (bodyKnown (was value)) BODIES ⌝ }
+    ensures answer { λ r. ⌜ r ≡ lent insertNumber room words reals (bodyIn office (was value)) BODIES ⌝ }
     ensures slots { λ r. ⌜ now (id .exit) ≡ unlessRefused r (word (was words) BODIES ∷ []) (was id) ⌝ }
-    ensures tables { λ _. ⌜ now (words .exit) ≡ lent insertWords room words reals (bodyKnown (was value)) BODIES (bodyGiven (was value)) ⌝ }
-    ensures floats { λ _. ⌜ now (reals .exit) ≡ lent insertReals room words reals (bodyKnown (was value)) BODIES [] ⌝ }
+    ensures tables { λ _. ⌜ now (words .exit) ≡ lent insertWords room words reals (bodyIn office (was value)) BODIES (bodyGiven office (was value)) ⌝ }
+    ensures floats { λ _. ⌜ now (reals .exit) ≡ lent insertReals room words reals (bodyIn office (was value)) BODIES [] ⌝ }
 {
     if !body_known(value) {
         return unknown_tag(room, &words[..], &reals[..]);
     }
     let kind = kind_of(value[AT_BODY_KIND]);
-    put_id(insert_body(room, words, reals, kind), id)
+    put_id(insert_body(room, words, reals, office, kind), id)
 }
 
 pub fn region(

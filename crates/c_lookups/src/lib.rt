@@ -27,6 +27,8 @@ ghost use Rattle.memory_layout.specs.Readable.{readable};
 ghost use Rattle.memory_writes.specs.Put.{unlessRefused};
 ghost use Rattle.memory_records.specs.Seen.{seenBody, seenRegion, seenShell, seenFace, seenLoop, seenFin, seenEdge, seenVertex};
 ghost use Rattle.edit_fields.specs.Fields.{carrierFields, carrierFloats};
+ghost use Rattle.meaning.specs.Offices.{bodyFor};
+ghost use Rattle.office_bodies.specs.Answers.{officeBodyNumber};
 ghost use Rattle.c_lent.specs.Lent.{was, lent, held};
 ghost use Rattle.c_values.specs.Crossing.{bodyValue, regionValue, shellValue, faceValue, loopValue, finValue, edgeValue, vertexValue, edgeReals, vertexReals};
 
@@ -34,13 +36,14 @@ pub fn body(
     room: &[usize; 10],
     words: &[u32],
     reals: &[f64],
+    office: u32,
     id: usize,
     value: &mut [u32; 2],
 ) -> u32
-    ensures answer { λ r. ⌜ r ≡ 9 unless lent readable room words reals then 2 unless has (held room words reals .bodies) id ⌝ }
-    ensures slots { λ r. ⌜ now (value .exit) ≡ unlessRefused r (bodyValue (seenBody (held room words reals .bodies .slot id))) (was value) ⌝ }
+    ensures answer { λ r. ⌜ r ≡ lent officeBodyNumber room words reals office id ⌝ }
+    ensures slots { λ r. ⌜ now (value .exit) ≡ unlessRefused r (bodyValue (seenBody (held room words reals .bodies .slot (bodyFor (held room words reals) office id)))) (was value) ⌝ }
 {
-    match memory_lookups::body(room, words, reals, id) {
+    match office_bodies::body(room, words, reals, office, id) {
         BodyFound::Is(r) => {
             *value = body_value(r);
             0

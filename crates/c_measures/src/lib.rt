@@ -4,10 +4,10 @@ use c_answers::put_counts;
 use c_answers::put_fit;
 use c_answers::put_split;
 use c_answers::put_volume;
-use check_report::check_body;
-use check_report::fit_to_saw;
-use inquire_box::body_bounding_box;
-use inquire_volume::body_volume;
+use office_measures::body_bounding_box;
+use office_measures::body_volume;
+use office_measures::check_body;
+use office_measures::fit_to_saw;
 use split_edge::split_line_edge;
 ghost use mathlib.Core.Path.{_≡_};
 ghost use mathlib.Core.List.{[], _∷_};
@@ -16,11 +16,11 @@ ghost use Rattle.meaning.specs.Faults.{sawing};
 ghost use Rattle.memory_layout.specs.Names.{EDGES, VERTICES};
 ghost use Rattle.memory_layout.specs.Layout.{word};
 ghost use Rattle.memory_writes.specs.Put.{unlessRefused};
-ghost use Rattle.check_report.specs.Calls.{asked, checkNumber, checkWords};
-ghost use Rattle.inquire_box.specs.Answers.{boxNumber};
-ghost use Rattle.inquire_volume.specs.Answers.{volumeNumber};
-ghost use Rattle.split_place.specs.SplitNumber.{splitNumber};
-ghost use Rattle.split_edge.specs.After.{splitWords, splitReals};
+ghost use Rattle.meaning.specs.Offices.{bodyFor};
+ghost use Rattle.check_report.specs.Calls.{asked};
+ghost use Rattle.office_measures.specs.Answers.{officeBoxNumber, officeVolumeNumber, officeCheckNumber, officeFaults};
+ghost use Rattle.split_place.specs.SplitNumber.{officeSplitNumber};
+ghost use Rattle.split_edge.specs.After.{officeSplitWords, officeSplitReals};
 ghost use Rattle.c_lent.specs.Lent.{was, lent, held};
 ghost use Rattle.c_answers.specs.Values.{wanted};
 ghost use Rattle.c_measures.specs.Measures.{boxValue, volumeValue, reportValue, fitValue};
@@ -30,19 +30,20 @@ pub fn box_of(
     room: &[usize; 10],
     words: &[u32],
     reals: &[f64],
+    office: u32,
     body: usize,
     faces: &mut [u8],
     edges: &mut [u8],
     vertices: &mut [u8],
     value: &mut [f64; 6],
 ) -> u32
-    ensures answer { λ r. ⌜ r ≡ lent boxNumber room words reals body (was faces) (was edges) (was vertices) ⌝ }
-    ensures slots { λ r. ⌜ now (value .exit) ≡ unlessRefused r (boxValue (held room words reals) body) (was value) ⌝ }
+    ensures answer { λ r. ⌜ r ≡ lent officeBoxNumber room words reals office body (was faces) (was edges) (was vertices) ⌝ }
+    ensures slots { λ r. ⌜ now (value .exit) ≡ unlessRefused r (boxValue (held room words reals) (bodyFor (held room words reals) office body)) (was value) ⌝ }
     ensures faces { λ _. ⌜ now (faces .exit) ≡ replicate (length (was faces)) 0 ⌝ }
     ensures edges { λ _. ⌜ now (edges .exit) ≡ replicate (length (was edges)) 0 ⌝ }
     ensures vertices { λ _. ⌜ now (vertices .exit) ≡ replicate (length (was vertices)) 0 ⌝ }
 {
-    let answer = body_bounding_box(room, words, reals, body, faces, edges, vertices);
+    let answer = body_bounding_box(room, words, reals, office, body, faces, edges, vertices);
     put_box(answer, value)
 }
 
@@ -50,15 +51,16 @@ pub fn volume_of(
     room: &[usize; 10],
     words: &[u32],
     reals: &[f64],
+    office: u32,
     body: usize,
     faces: &mut [u8],
     value: &mut [f64; 1],
 ) -> u32
-    ensures answer { λ r. ⌜ r ≡ lent volumeNumber room words reals body (was faces) ⌝ }
-    ensures slots { λ r. ⌜ now (value .exit) ≡ unlessRefused r (volumeValue (held room words reals) body) (was value) ⌝ }
+    ensures answer { λ r. ⌜ r ≡ lent officeVolumeNumber room words reals office body (was faces) ⌝ }
+    ensures slots { λ r. ⌜ now (value .exit) ≡ unlessRefused r (volumeValue (held room words reals) (bodyFor (held room words reals) office body)) (was value) ⌝ }
     ensures faces { λ _. ⌜ now (faces .exit) ≡ replicate (length (was faces)) 0 ⌝ }
 {
-    let answer = body_volume(room, words, reals, body, faces);
+    let answer = body_volume(room, words, reals, office, body, faces);
     put_volume(answer, value)
 }
 
@@ -67,16 +69,17 @@ pub fn split_of(
     room: &[usize; 10],
     words: &mut [u32],
     reals: &mut [f64],
+    office: u32,
     edge: usize,
     fraction: f64,
     value: &mut [u32; 3],
 ) -> u32
-    ensures answer { λ r. ⌜ r ≡ lent splitNumber room words reals edge fraction ⌝ }
+    ensures answer { λ r. ⌜ r ≡ lent officeSplitNumber room words reals office edge fraction ⌝ }
     ensures slots { λ r. ⌜ now (value .exit) ≡ unlessRefused r (edge ∷ word (was words) EDGES ∷ word (was words) VERTICES ∷ []) (was value) ⌝ }
-    ensures tables { λ _. ⌜ now (words .exit) ≡ lent splitWords room words reals edge fraction ⌝ }
-    ensures floats { λ _. ⌜ now (reals .exit) ≡ lent splitReals room words reals edge fraction ⌝ }
+    ensures tables { λ _. ⌜ now (words .exit) ≡ lent officeSplitWords room words reals office edge fraction ⌝ }
+    ensures floats { λ _. ⌜ now (reals .exit) ≡ lent officeSplitReals room words reals office edge fraction ⌝ }
 {
-    let answer = split_line_edge(room, words, reals, edge, fraction);
+    let answer = split_line_edge(room, words, reals, office, edge, fraction);
     put_split(answer, value)
 }
 
@@ -85,6 +88,7 @@ pub fn report_of(
     room: &[usize; 10],
     words: &[u32],
     reals: &[f64],
+    office: u32,
     body: usize,
     geometry: u32,
     samples: usize,
@@ -93,9 +97,9 @@ pub fn report_of(
     nums: &mut [u32],
     value: &mut [usize; 3],
 ) -> u32
-    ensures answer { λ r. ⌜ r ≡ lent checkNumber room words reals body (asked (wanted geometry) samples) (was faces) (was edges) ⌝ }
-    ensures slots { λ r. ⌜ now (value .exit) ≡ unlessRefused r (lent reportValue room words reals body (asked (wanted geometry) samples) (was nums)) (was value) ⌝ }
-    ensures list { λ _. ⌜ now (nums .exit) ≡ lent checkWords room words reals body (asked (wanted geometry) samples) (was faces) (was edges) (was nums) ⌝ }
+    ensures answer { λ r. ⌜ r ≡ lent officeCheckNumber room words reals office body (asked (wanted geometry) samples) (was faces) (was edges) ⌝ }
+    ensures slots { λ r. ⌜ now (value .exit) ≡ unlessRefused r (lent reportValue room words reals (bodyFor (held room words reals) office body) (asked (wanted geometry) samples) (was nums)) (was value) ⌝ }
+    ensures list { λ _. ⌜ now (nums .exit) ≡ lent officeFaults room words reals office body (asked (wanted geometry) samples) (was faces) (was edges) (was nums) ⌝ }
     ensures faces { λ _. ⌜ now (faces .exit) ≡ replicate (length (was faces)) 0 ⌝ }
     ensures edges { λ _. ⌜ now (edges .exit) ≡ replicate (length (was edges)) 0 ⌝ }
 {
@@ -103,6 +107,7 @@ pub fn report_of(
         room,
         words,
         reals,
+        office,
         body,
         geometry != 0,
         samples,
@@ -118,16 +123,17 @@ pub fn fit_of(
     room: &[usize; 10],
     words: &[u32],
     reals: &[f64],
+    office: u32,
     body: usize,
     faces: &mut [u8],
     edges: &mut [u8],
     value: &mut [u32; 1],
 ) -> u32
-    ensures answer { λ r. ⌜ r ≡ lent checkNumber room words reals body sawing (was faces) (was edges) ⌝ }
-    ensures slots { λ r. ⌜ now (value .exit) ≡ unlessRefused r (fitValue (held room words reals) body) (was value) ⌝ }
+    ensures answer { λ r. ⌜ r ≡ lent officeCheckNumber room words reals office body sawing (was faces) (was edges) ⌝ }
+    ensures slots { λ r. ⌜ now (value .exit) ≡ unlessRefused r (fitValue (held room words reals) (bodyFor (held room words reals) office body)) (was value) ⌝ }
     ensures faces { λ _. ⌜ now (faces .exit) ≡ replicate (length (was faces)) 0 ⌝ }
     ensures edges { λ _. ⌜ now (edges .exit) ≡ replicate (length (was edges)) 0 ⌝ }
 {
-    let answer = fit_to_saw(room, words, reals, body, faces, edges);
+    let answer = fit_to_saw(room, words, reals, office, body, faces, edges);
     put_fit(answer, value)
 }

@@ -2,24 +2,26 @@
 use c_values::mark_value;
 use c_values::tags::entity_of;
 use c_values::tips_value;
-use c_values::unknown_tag;
 use memory_contains::Contained;
 use memory_contains::PrecisionFound;
 use memory_contains::VersionFound;
 use memory_layout::entries::Entry;
+use memory_readable::unknown_tag;
 use split_bounds::Bounds;
 use split_bounds::edge_parameter_bounds;
 use walk_fin_ends::FinVertices;
 ghost use mathlib.Core.Path.{_≡_};
 ghost use mathlib.Core.List.{[], _∷_};
 ghost use lib.Dec.{ltb};
-ghost use Rattle.geom_lines_planes.specs.Refuse.{_unless_, _then_};
+ghost use Rattle.geom_lines_planes.specs.Refuse.{_unless_};
 ghost use Rattle.meaning.specs.Walks.{endsOf};
 ghost use Rattle.memory_layout.specs.Layout.{word};
 ghost use Rattle.memory_layout.specs.Readable.{readable};
 ghost use Rattle.memory_layout.specs.Laid.{versionTag};
-ghost use Rattle.memory_layout.specs.Entries.{listOf, entryRefusal};
+ghost use Rattle.memory_layout.specs.Entries.{listOf};
 ghost use Rattle.memory_contains.specs.Answers.{contained};
+ghost use Rattle.memory_offices.specs.Sight.{byOffice};
+ghost use Rattle.office_bodies.specs.Answers.{entityFor, recordFor, officeEntryNumber};
 ghost use Rattle.split_bounds.specs.Answers.{boundsNumber};
 ghost use Rattle.walk_fin_ends.specs.Answers.{seenEnds, finVerticesNumber};
 ghost use Rattle.memory_writes.specs.Put.{unlessRefused};
@@ -61,15 +63,16 @@ pub fn list_entry(
     room: &[usize; 10],
     words: &[u32],
     reals: &[f64],
+    office: u32,
     j: usize,
     i: usize,
     place: usize,
     value: &mut [u32; 1],
 ) -> u32
-    ensures answer { λ r. ⌜ r ≡ lent entryRefusal room words reals j i place ⌝ }
-    ensures slots { λ r. ⌜ now (value .exit) ≡ unlessRefused r (word (listOf (was room) (was words) j i) place ∷ []) (was value) ⌝ }
+    ensures answer { λ r. ⌜ r ≡ lent officeEntryNumber room words reals office j i place ⌝ }
+    ensures slots { λ r. ⌜ now (value .exit) ≡ unlessRefused r (word (listOf (was room) (was words) j (recordFor (held room words reals) office j i)) place ∷ []) (was value) ⌝ }
 {
-    match memory_lists::list_entry(room, words, reals, j, i, place) {
+    match office_bodies::list_entry(room, words, reals, office, j, i, place) {
         Entry::Is(id) => {
             *value = [id];
             0
@@ -78,23 +81,24 @@ pub fn list_entry(
     }
 }
 
-// Whether an entity exists, by its class, which is the number of its table; a class that is none gives 1, right after 9.
+// Whether an entity exists, by its class, which is the number of its table; a class that is none gives 1, as an office above 1 does, right after 9.
 pub fn contains(
     room: &[usize; 10],
     words: &[u32],
     reals: &[f64],
+    office: u32,
     class: u32,
     id: usize,
     value: &mut [u32; 1],
 ) -> u32
-    ensures answer { λ r. ⌜ r ≡ 9 unless lent readable room words reals then 1 unless ltb class 8 ⌝ }
-    ensures slots { λ r. ⌜ now (value .exit) ≡ unlessRefused r (mark (contained (held room words reals) (entityOf class id)) ∷ []) (was value) ⌝ }
+    ensures answer { λ r. ⌜ r ≡ lent byOffice room words reals office (1 unless ltb class 8) ⌝ }
+    ensures slots { λ r. ⌜ now (value .exit) ≡ unlessRefused r (mark (contained (held room words reals) (entityFor (held room words reals) office (entityOf class id))) ∷ []) (was value) ⌝ }
 {
     if 8 <= class {
         return unknown_tag(room, words, reals);
     }
     let entity = entity_of(class, id);
-    match memory_contains::contains(room, words, reals, entity) {
+    match office_bodies::contains(room, words, reals, office, entity) {
         Contained::Is(yes) => {
             *value = mark_value(yes);
             0

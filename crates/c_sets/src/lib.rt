@@ -6,7 +6,6 @@ use c_values::tags::fin_known;
 use c_values::tags::own_known;
 use c_values::tags::point_of;
 use c_values::tags::region_known;
-use c_values::unknown_tag;
 use edit_sets::set_body;
 use edit_sets::set_curve;
 use edit_sets::set_edge;
@@ -37,6 +36,7 @@ use memory_layout::names::AT_SHELL_REGION;
 use memory_layout::names::AT_VERTEX_TOLERANCE;
 use memory_layout::names::FLOAT_EDGE_TOLERANCE;
 use memory_layout::names::FLOAT_VERTEX_TOLERANCE;
+use memory_readable::unknown_tag;
 use memory_records::records::carrier_of;
 use memory_records::records::kind_of;
 use memory_records::records::ref_at;
@@ -46,8 +46,9 @@ ghost use mathlib.Core.Path.{_≡_};
 ghost use mathlib.Core.Bool.{true};
 ghost use mathlib.Core.List.{[]};
 ghost use Rattle.edit_core.specs.Answers.{editNumber, editWords, editReals};
-ghost use Rattle.c_lent.specs.Lent.{was, lent};
-ghost use Rattle.c_values.specs.Given.{bodyKnown, regionKnown, carrierKnown, edgeGood, vertexGood, bodyGiven, regionGiven, shellGiven, loopGiven, edgeGiven, vertexGiven, carrierGiven, edgeOwn, vertexOwn, carrierOwn, faceKnown, finKnown, faceGiven, finGiven};
+ghost use Rattle.meaning.specs.Offices.{bodyFor};
+ghost use Rattle.c_lent.specs.Lent.{was, lent, held};
+ghost use Rattle.c_values.specs.Given.{bodyIn, regionKnown, carrierKnown, edgeGood, vertexGood, kindGiven, regionGiven, shellGiven, loopGiven, edgeGiven, vertexGiven, carrierGiven, edgeOwn, vertexOwn, carrierOwn, faceKnown, finKnown, faceGiven, finGiven};
 ghost use Rattle.memory_layout.specs.Names.{BODIES, REGIONS, SHELLS, LOOPS, EDGES, VERTICES, CURVES, SURFACES, FACES, FINS};
 
 pub fn face(
@@ -102,18 +103,19 @@ pub fn body(
     room: &[usize; 10],
     words: &mut [u32],
     reals: &mut [f64],
+    office: u32,
     id: usize,
     value: &[u32; 1],
 ) -> u32
-    ensures answer { λ r. ⌜ r ≡ lent editNumber room words reals (bodyKnown (was value)) BODIES id ⌝ }
-    ensures tables { λ _. ⌜ now (words .exit) ≡ lent editWords room words reals (bodyKnown (was value)) BODIES id 0 (bodyGiven (was value)) ⌝ }
-    ensures floats { λ _. ⌜ now (reals .exit) ≡ lent editReals room words reals (bodyKnown (was value)) BODIES id [] ⌝ }
+    ensures answer { λ r. ⌜ r ≡ lent editNumber room words reals (bodyIn office (was value)) BODIES (bodyFor (held room words reals) office id) ⌝ }
+    ensures tables { λ _. ⌜ now (words .exit) ≡ lent editWords room words reals (bodyIn office (was value)) BODIES (bodyFor (held room words reals) office id) 0 (kindGiven (was value)) ⌝ }
+    ensures floats { λ _. ⌜ now (reals .exit) ≡ lent editReals room words reals (bodyIn office (was value)) BODIES (bodyFor (held room words reals) office id) [] ⌝ }
 {
     if !body_known(value) {
         return unknown_tag(room, &words[..], &reals[..]);
     }
     let kind = kind_of(value[AT_BODY_KIND]);
-    set_body(room, words, reals, id, kind)
+    set_body(room, words, reals, office, id, kind)
 }
 
 pub fn region(

@@ -15,12 +15,12 @@ use Rattle.memory_records.specs.declared.records.Edge.{Edge}
 use Rattle.memory_records.specs.declared.records.Vertex.{Vertex}
 use Rattle.walk_fin_ends.specs.declared.Tips.{Tips}
 use Rattle.edit_tags.specs.Tags.{refTag, refId}
-use Rattle.edit_fields.specs.Fields.{bodyFields, regionFields, shellFields, faceFields, loopFields, finFields, edgeFields, vertexFields, edgeFloats, vertexFloats}
+use Rattle.edit_fields.specs.Fields.{kindFields, regionFields, shellFields, faceFields, loopFields, finFields, edgeFields, vertexFields, edgeFloats, vertexFloats}
 
--- ---- a record's value: its fields, then the lengths of its lists
+-- ---- a record's value: its fields, then the lengths of its lists; of a body not the office, which asks
 
 unfoldable pub bodyValue : Body → List ℕ
-bodyValue b = bodyFields (b .kind) ++ (b .regions ∷ [])
+bodyValue b = kindFields (b .kind) ++ (b .regions ∷ [])
 
 unfoldable pub regionValue : Region → List ℕ
 regionValue r = regionFields (r .body) (r .solid) ++ (r .shells ∷ [])

@@ -5,27 +5,25 @@ use mathlib.Core.Bool.{Bool, _&&_}
 use mathlib.Core.List.{List}
 use lib.Dec.{leb}
 use lib.Ieee.{Float}
-use Rattle.geom_lines_planes.specs.Refuse.{_unless_, _then_}
 use Rattle.geom_lines_planes.specs.declared.tolerance.Tolerance.{Tolerance}
 use Rattle.meaning.specs.Edits.{toleranceOk}
 use Rattle.memory_layout.specs.Names.{AT-BODY-KIND, AT-REGION-BODY, AT-REGION-SOLID, AT-SHELL-REGION, AT-FACE-FRONT, AT-FACE-BACK, AT-FACE-SURFACE, AT-FACE-SENSE, AT-LOOP-FACE, AT-FIN-LOOP, AT-FIN-EDGE, AT-FIN-SENSE, AT-FIN-PCURVE, AT-EDGE-START, AT-EDGE-END, AT-EDGE-CURVE, AT-EDGE-TOLERANCE, AT-VERTEX-TOLERANCE, AT-CARRIER-TAG, FLOAT-EDGE-TOLERANCE, FLOAT-VERTEX-POINT, FLOAT-VERTEX-TOLERANCE}
 use Rattle.memory_layout.specs.Layout.{word, real}
 use Rattle.memory_layout.specs.Decode.{maybeAt, flagAt, senseOf, kindOf, toleranceOf, pointAt, carrierOf}
-use Rattle.memory_layout.specs.Readable.{readable}
 use Rattle.memory_records.specs.declared.records.Ref.{Ref}
 use Rattle.memory_contains.specs.declared.EntityRef.{EntityRef}
 use Rattle.memory_contains.specs.declared.EntityRef.the-variants as Entities
 use Rattle.memory_records.specs.Seen.{seenRef, seenKind, seenSense}
-use Rattle.edit_fields.specs.Fields.{bodyFields, regionFields, shellFields, faceFields, loopFields, finFields, edgeFields, vertexFields, carrierFields, edgeFloats, vertexFloats, carrierFloats}
-
--- a tag that is none: "Every call tests 9 first"
-unfoldable pub tagNumber : List ℕ → List ℕ → List Float → ℕ
-tagNumber room w x = 9 unless readable room w x then 1
+use Rattle.edit_fields.specs.Fields.{bodyFields, kindFields, regionFields, shellFields, faceFields, loopFields, finFields, edgeFields, vertexFields, carrierFields, edgeFloats, vertexFloats, carrierFloats}
 
 -- ---- the tags of a value v are known; and an own tolerance, among the floats s, is one that a record may have
 
 abbrev pub bodyKnown : List ℕ → Bool
 bodyKnown v = leb (word v AT-BODY-KIND) 4
+
+-- and so is the office o
+abbrev pub bodyIn : ℕ → List ℕ → Bool
+bodyIn o v = bodyKnown v && leb o 1
 
 abbrev pub regionKnown : List ℕ → Bool
 regionKnown v = leb (word v AT-REGION-SOLID) 1
@@ -57,8 +55,12 @@ vertexGood v s = ownKnown v && toleranceOk (vertexTolerance v s)
 
 -- ---- the fields, as `memory_layout` reads them off a record's words and floats
 
-abbrev pub bodyGiven : List ℕ → List ℕ
-bodyGiven v = bodyFields (seenKind (kindOf (word v AT-BODY-KIND)))
+-- a body in the office o (W-206); a set keeps it
+abbrev pub bodyGiven : ℕ → List ℕ → List ℕ
+bodyGiven o v = bodyFields (seenKind (kindOf (word v AT-BODY-KIND))) o
+
+abbrev pub kindGiven : List ℕ → List ℕ
+kindGiven v = kindFields (seenKind (kindOf (word v AT-BODY-KIND)))
 
 abbrev pub regionGiven : List ℕ → List ℕ
 regionGiven v = regionFields (word v AT-REGION-BODY) (flagAt v AT-REGION-SOLID)

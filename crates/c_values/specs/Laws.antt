@@ -6,7 +6,7 @@ use mathlib.Core.List.{List, [], _∷_}
 use native.Mathlib.Omega.{arith}
 use lib.Ieee.{Float}
 use Rattle.geom_lines_planes.specs.Refuse.{_unless_, _then_}
-use Rattle.memory_layout.specs.Readable.{readable}
+use Rattle.memory_layout.specs.Readable.{readable, tagNumber}
 use Rattle.memory_contains.specs.declared.EntityRef.the-variants.{Vertex}
 use Rattle.memory_layout.specs.Layout.{word}
 use Rattle.memory_writes.specs.Put.{unlessRefused}
@@ -15,7 +15,7 @@ use Rattle.c_lent.specs.Laws.{crossed}
 use Rattle.edit_core.specs.declared.Inserted.{Inserted}
 use Rattle.edit_core.specs.declared.Inserted.the-variants.{At, Refused}
 use Rattle.edit_core.specs.Answers.{insertNumber, insertAnswer, insertWords, insertReals, editNumber, editWords, editReals}
-use Rattle.c_values.specs.Given.{tagNumber, entityOf}
+use Rattle.c_values.specs.Given.{entityOf}
 
 -- the classes from 7 on
 pub last-class : (n i : ℕ) → 7 ≤ n → entityOf n i ≡ Vertex i

@@ -4,26 +4,14 @@ pub mod tags;
 pub mod values;
 
 use edit_core::Inserted;
-use memory_readable::readable;
 use memory_records::records::Ref;
 use walk_fin_ends::Tips;
 ghost use mathlib.Core.Path.{_≡_};
 ghost use mathlib.Core.List.{[], _∷_};
 ghost use Rattle.edit_tags.specs.Tags.{mark, refTag, refId};
 ghost use Rattle.edit_core.specs.declared.Inserted.the-variants as Inserts;
-ghost use Rattle.c_lent.specs.Lent.{was, lent, Crosses, alone};
+ghost use Rattle.c_lent.specs.Lent.{was, Crosses, alone};
 ghost use Rattle.c_values.specs.Crossing.{tipsValue};
-ghost use Rattle.c_values.specs.Given.{tagNumber};
-
-// A tag that is none: 9, then 1.
-pub fn unknown_tag(room: &[usize; 10], words: &[u32], reals: &[f64]) -> u32
-    ensures { λ r. ⌜ r ≡ lent tagNumber room words reals ⌝ }
-{
-    if !readable(room, words, reals) {
-        return 9;
-    }
-    1
-}
 
 fn ref_value(id: Ref) -> [u32; 2]
     ensures { λ r. ⌜ r ≡ refTag id ∷ refId id ∷ [] ⌝ }

@@ -1,9 +1,9 @@
 // A record as numbers: its fields as `edit_fields` lays them out, then the lengths of its lists.
-use edit_fields::body_fields;
 use edit_fields::edge_fields;
 use edit_fields::edge_floats;
 use edit_fields::face_fields;
 use edit_fields::fin_fields;
+use edit_fields::kind_fields;
 use edit_fields::region_fields;
 use edit_fields::vertex_fields;
 use edit_fields::vertex_floats;
@@ -22,7 +22,7 @@ pub fn body_value(b: Body) -> [u32; 2]
     ensures { λ r. ⌜ r ≡ bodyValue b ⌝ }
 {
     let kind = b.kind;
-    let f = body_fields(kind);
+    let f = kind_fields(kind);
     [f[0], b.regions]
 }
 

@@ -1,6 +1,6 @@
 // Inner: the reasons' table, and the log of the checker in plain numbers, four words to a fault, the first that fit kept (01, "Faults").
 //
-// The family check_: the report of a body (gensolid-check's lib.rs). Call check_report, and check_fault_list for its faults as structs. Read from the
+// The family check_: the report of a body (gensolid-check's lib.rs). It is asked by an office (office_measures); call check_fault_list for its faults as structs. Read from the
 // inside out: check_reasons, check_points, check_ends, check_edge, check_fin, check_open_loop, check_loop, check_face, check_regions, check_manifold,
 // check_findings; then check_refusals, check_fit, check_report, check_fault_list.
 use walk_marks::put;

@@ -1,5 +1,5 @@
-// For callers: `check_body` of gensolid-check's lib.rs over lent memory, its faults in plain numbers, four to a fault; and `fit_to_saw` (01, "Faults").
-// specs/Calls.antt says which number, which report and which words. Inner: `check`, which asks for what the refusals have tested.
+// Inner: `check_body` of gensolid-check's lib.rs over lent memory, its faults in plain numbers, four to a fault; and `fit_to_saw` (01, "Faults"); whatever the body's office, callers
+// ask `office_measures`. specs/Calls.antt says which number, which report and which words. Besides, `check`, which asks for what the refusals have tested.
 use check_findings::body_findings;
 use check_fit::fit_if;
 use check_refusals::kept_of;

@@ -3,7 +3,7 @@ use Prim.Native.Nat.{ℕ, zero, suc, _<_}
 use native.Mathlib.Nat.{lt-of-lt-of-le}
 use native.Mathlib.Omega.{arith}
 use mathlib.Core.Path.{_≡_, refl, sym, ap, _∙_, subst, fun-ext}
-use mathlib.Core.Bool.{Bool, true, false, cond}
+use mathlib.Core.Bool.{Bool, true, false, cond, _&&_}
 use mathlib.Core.List.{List}
 use lib.Dec.{eqb, ltb, leb}
 use lib.ListN.{length}
@@ -12,7 +12,7 @@ use borrow.Author.Tests.{eqb-true, le-leb}
 use Rattle.geom_lines_planes.specs.Refuse.{_unless_, _then_}
 use Rattle.meaning.specs.Model.{Model, Table, changed}
 use Rattle.meaning.specs.Edits.{edited}
-use Rattle.meaning_list_laws.specs.Tests.{then-zero, unless-zero}
+use Rattle.meaning_list_laws.specs.Tests.{then-zero, unless-zero, and-both}
 use Rattle.memory_layout.specs.Layout.{wordStrides, word, wordsOf}
 use Rattle.memory_layout.specs.Decode.{decode}
 use Rattle.memory_layout.specs.Readable as Readable
@@ -65,6 +65,13 @@ module _ (room w : List ℕ) (x : List Float) where
   pub within : (j i : ℕ) → Fit room w x → j < 8 → i < word w (word listTables j)
       → leb (word (wordsOf room w (word listTables j) i) (word listPlaces j)) (word listLimits j) ≡ true
   within j i f h g = le-leb _ _ (lists-of room w x f .short j i h g)
+
+  -- and the office of a used body is known
+  pub office-within : (i : ℕ) → Fit room w x → i < word w 0 → leb (word (wordsOf room w 0 i) 1) 1 ≡ true
+  unfolding Readable.recordOk
+  office-within i f h =
+      let r : List ℕ = wordsOf room w 0 i in
+      and-both (leb (word r 0) 4) (leb (word r 1) 1) (and-both (leb (word r 0) 4 && leb (word r 1) 1) (leb (word r 2) 16) (f .rows 0 i (omega arith) h) .0) .1
 
   module _ (ok : Bool) (k : ℕ) (f : List ℕ) (s : List Float) (n : Model) where
     -- the new record has lists of length 0

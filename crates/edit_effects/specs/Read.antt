@@ -19,7 +19,7 @@ use Rattle.geom_carriers.specs.declared.Carrier.the-variants as Carriers
 use Rattle.meaning.specs.Edits.{toleranceOk}
 use Rattle.meaning_list_laws.specs.Tests.{and-both}
 use Rattle.memory_layout.specs.Layout.{word}
-use Rattle.memory_layout.specs.Decode.{listAt, senseOf, kindOf, toleranceOf, bodyOf, regionOf, shellOf, faceOf, loopOf, finOf, edgeOf, vertexOf, carrierOf}
+use Rattle.memory_layout.specs.Decode.{listAt, senseOf, kindOf, officeOf, toleranceOf, bodyOf, regionOf, shellOf, faceOf, loopOf, finOf, edgeOf, vertexOf, carrierOf}
 use Rattle.memory_layout.specs.Readable.{ownOk, recordOk}
 use Rattle.memory_records.specs.declared.records.BodyKind.{BodyKind}
 use Rattle.memory_records.specs.declared.records.BodyKind.the-variants as Kinds
@@ -29,7 +29,7 @@ use Rattle.memory_records.specs.declared.records.Ref.{Ref}
 use Rattle.memory_records.specs.declared.records.Ref.the-variants as Refs
 use Rattle.memory_writes.specs.Put.{over}
 use Rattle.edit_tags.specs.Tags.{kindTag, senseTag, mark, refTag, refId, toleranceTag, toleranceFloat}
-use Rattle.edit_fields.specs.Fields.{bodyFields, regionFields, shellFields, faceFields, loopFields, finFields, edgeFields, vertexFields, carrierFields, edgeFloats, vertexFloats, carrierFloats}
+use Rattle.edit_fields.specs.Fields.{bodyFields, kindFields, regionFields, shellFields, faceFields, loopFields, finFields, edgeFields, vertexFields, carrierFields, edgeFloats, vertexFloats, carrierFloats}
 use Rattle.edit_effects.specs.Meant.{meantKind, meantSense, meantRef}
 
 -- ---- what stands behind the fields is as it was
@@ -115,13 +115,22 @@ own-known (Own t) e = e
 -- ---- the records
 
 module _ (r : List ℕ) where
-  pub body-read : (kind : BodyKind) → bodyOf (over 0 (bodyFields kind) r) ≡ record { kind = meantKind kind; regions = listAt r 1 }
+  pub body-read : (kind : BodyKind) (office : ℕ) → bodyOf (over 0 (bodyFields kind office) r) ≡ record { kind = meantKind kind; office = officeOf office; regions = listAt r 2 }
   unfolding bodyFields over
-  body-read kind = rw (kind-read kind, list-kept (bodyFields kind) r 1 (omega arith))
+  body-read kind office = rw (kind-read kind, list-kept (bodyFields kind office) r 2 (omega arith))
 
-  pub body-ok : (kind : BodyKind) → leb (word r 1) 16 ≡ true → recordOk 0 (over 0 (bodyFields kind) r) [] ≡ true
+  pub body-ok : (kind : BodyKind) (office : ℕ) → leb office 1 ≡ true → leb (word r 2) 16 ≡ true → recordOk 0 (over 0 (bodyFields kind office) r) [] ≡ true
   unfolding bodyFields over recordOk
-  body-ok kind h = rw (kind-known kind, word-kept (bodyFields kind) r 1 (omega arith), h)
+  body-ok kind office o h = rw (kind-known kind, o, word-kept (bodyFields kind office) r 2 (omega arith), h)
+
+  -- a set, which keeps the office
+  pub kind-set : (kind : BodyKind) → bodyOf (over 0 (kindFields kind) r) ≡ record { kind = meantKind kind; office = bodyOf r .office; regions = listAt r 2 }
+  unfolding kindFields over
+  kind-set kind = rw (kind-read kind, word-kept (kindFields kind) r 1 (omega arith), list-kept (kindFields kind) r 2 (omega arith))
+
+  pub kind-ok : (kind : BodyKind) → leb (word r 1) 1 ≡ true → leb (word r 2) 16 ≡ true → recordOk 0 (over 0 (kindFields kind) r) [] ≡ true
+  unfolding kindFields over recordOk
+  kind-ok kind o h = rw (kind-known kind, word-kept (kindFields kind) r 1 (omega arith), o, word-kept (kindFields kind) r 2 (omega arith), h)
 
   pub region-read : (body : ℕ) (solid : Bool) → regionOf (over 0 (regionFields body solid) r) ≡ record { body = body; solid = solid; shells = listAt r 2 }
   unfolding regionFields over

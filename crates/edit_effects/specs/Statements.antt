@@ -5,6 +5,7 @@ use native.Mathlib.Omega.{arith}
 use mathlib.Core.Path.{_≡_, refl, ap}
 use mathlib.Core.Bool.{Bool, true}
 use mathlib.Core.List.{List, [], _∷_}
+use lib.Dec.{leb}
 use lib.ListN.{replicate}
 use lib.Ieee.{Float}
 use Rattle.float_vectors.specs.declared.vector.Point3.{Point3}
@@ -14,7 +15,7 @@ use Rattle.meaning.specs.Model.{Model, Body, Region, Shell, Face, Loop, Fin, Ed
 use Rattle.meaning.specs.Edits.{toleranceOk, inserted, edited}
 use Rattle.memory_layout.specs.Names.{BODIES, REGIONS, SHELLS, FACES, LOOPS, FINS, EDGES, VERTICES, CURVES, SURFACES, AT-FIN-PCURVE}
 use Rattle.memory_layout.specs.Layout.{wordsOf, realsOf}
-use Rattle.memory_layout.specs.Decode.{listAt, decode}
+use Rattle.memory_layout.specs.Decode.{listAt, officeOf, decode}
 use Rattle.memory_layout.specs.Readable.{recordOk}
 use Rattle.memory_writes.specs.Put.{newWords}
 use Rattle.memory_records.specs.declared.records.BodyKind.{BodyKind}
@@ -25,35 +26,37 @@ use Rattle.memory_records.specs.declared.records.Ref.{Ref}
 use Rattle.memory_records.specs.declared.records.Ref.the-variants as Refs
 use Rattle.memory_records.specs.Seen.{seenKind, seenSense, seenRef}
 use Rattle.edit_tags.specs.Tags.{mark}
-use Rattle.edit_fields.specs.Fields.{bodyFields, regionFields, shellFields, faceFields, loopFields, finFields, edgeFields, vertexFields, carrierFields, edgeFloats, vertexFloats, carrierFloats}
+use Rattle.edit_fields.specs.Fields.{bodyFields, kindFields, regionFields, shellFields, faceFields, loopFields, finFields, edgeFields, vertexFields, carrierFields, edgeFloats, vertexFloats, carrierFloats}
 use Rattle.edit_effects.specs.Meant.{meantKind, meantSense, meantRef, withBodies, withRegions, withShells, withFaces, withLoops, withFins, withEdges, withVertices, withCurves, withSurfaces}
 use Rattle.edit_effects.specs.Leaves.{Inserts, Sets}
-use Rattle.edit_effects.specs.Read.{body-read, body-ok, region-read, region-ok, shell-read, shell-ok, face-read, face-ok, loop-read, loop-ok, fin-read, fin-ok, edge-read, edge-ok, vertex-read, vertex-ok, carrier-read, carrier-long, carrier-known, marked-read, marked-ok}
-use Rattle.edit_effects.specs.Laws.{edited-by, within, inserts, sets}
+use Rattle.edit_effects.specs.Read.{body-read, body-ok, kind-set, kind-ok, region-read, region-ok, shell-read, shell-ok, face-read, face-ok, loop-read, loop-ok, fin-read, fin-ok, edge-read, edge-ok, vertex-read, vertex-ok, carrier-read, carrier-long, carrier-known, marked-read, marked-ok}
+use Rattle.edit_effects.specs.Laws.{edited-by, within, office-within, inserts, sets}
 
 module _ (room w : List ℕ) (x : List Float) where
   -- the model that stands in the memory
   abbrev m : Model
   m = decode room w x
 
-  pub insert-body : (kind : BodyKind)
-      → Inserts room w x true BODIES (bodyFields kind) []
-      (withBodies m (inserted (m .bodies) (record { kind = meantKind kind; regions = [] })))
+  -- into the office that makes it; an office above 1 is refused
+  pub insert-body : (office : ℕ) (kind : BodyKind)
+      → Inserts room w x (leb office 1) BODIES (bodyFields kind office) []
+      (withBodies m (inserted (m .bodies) (record { kind = meantKind kind; office = officeOf office; regions = [] })))
   unfolding newWords listAt bodyFields
-  insert-body kind =
-      let r : List ℕ = replicate 18 0 in
-      inserts room w x true 0 (bodyFields kind) [] _ (record { table = omega arith; words = omega arith; reals = refl })
-      (λ _. body-ok r kind refl) (ap (λ (a : Body). withBodies m (inserted (m .bodies) a)) (body-read r kind))
+  insert-body office kind =
+      let r : List ℕ = replicate 19 0 in
+      inserts room w x (leb office 1) 0 (bodyFields kind office) [] _ (record { table = omega arith; words = omega arith; reals = refl })
+      (λ o. body-ok r kind office o refl) (ap (λ (a : Body). withBodies m (inserted (m .bodies) a)) (body-read r kind office))
 
-  pub set-body : (i : ℕ) (kind : BodyKind)
-      → Sets room w x true BODIES i 0 (bodyFields kind) []
-      (withBodies m (edited (m .bodies) i (λ b. record { kind = meantKind kind; regions = b .regions })))
-  unfolding decode bodyFields
-  set-body i kind =
+  -- which stays with its office
+  pub set-body : (ok : Bool) (i : ℕ) (kind : BodyKind)
+      → Sets room w x ok BODIES i 0 (kindFields kind) []
+      (withBodies m (edited (m .bodies) i (λ b. record { kind = meantKind kind; office = b .office; regions = b .regions })))
+  unfolding decode kindFields
+  set-body ok i kind =
       let r : List ℕ = wordsOf room w BODIES i in
-      sets room w x true 0 (bodyFields kind) [] _ i 0 (record { table = omega arith; words = omega arith; reals = refl })
-      (λ _ f h _. body-ok r kind (within room w x 0 i f (omega arith) h))
-      (λ _. ap (withBodies m) (edited-by (m .bodies) i _ _ (body-read r kind)))
+      sets room w x ok 0 (kindFields kind) [] _ i 0 (record { table = omega arith; words = omega arith; reals = refl })
+      (λ _ f h _. kind-ok r kind (office-within room w x i f h) (within room w x 0 i f (omega arith) h))
+      (λ _. ap (withBodies m) (edited-by (m .bodies) i _ _ (kind-set r kind)))
 
   pub insert-region : (body : ℕ) (solid : Bool)
       → Inserts room w x true REGIONS (regionFields body solid) []

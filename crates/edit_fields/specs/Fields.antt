@@ -16,8 +16,13 @@ use Rattle.edit_tags.specs.Tags.{kindTag, senseTag, mark, refTag, refId, tolera
 
 -- ---- the words of each record's fields
 
-unfoldable pub bodyFields : BodyKind → List ℕ
-bodyFields kind = kindTag kind ∷ []
+-- W-206, "Each body carries an office number"
+unfoldable pub bodyFields : BodyKind → ℕ → List ℕ
+bodyFields kind office = kindTag kind ∷ office ∷ []
+
+-- what a set writes of a body, which stays with its office
+unfoldable pub kindFields : BodyKind → List ℕ
+kindFields kind = kindTag kind ∷ []
 
 unfoldable pub regionFields : ℕ → Bool → List ℕ
 regionFields body solid = body ∷ mark solid ∷ []

@@ -15,10 +15,17 @@ use memory_records::records::BodyKind;
 use memory_records::records::Ref;
 use memory_records::records::Sense;
 ghost use mathlib.Core.Path.{_≡_};
-ghost use Rattle.edit_fields.specs.Fields.{bodyFields, regionFields, shellFields, faceFields, loopFields, finFields, edgeFields, vertexFields, carrierFields, edgeFloats, vertexFloats, six, carrierFloats};
+ghost use Rattle.edit_fields.specs.Fields.{bodyFields, kindFields, regionFields, shellFields, faceFields, loopFields, finFields, edgeFields, vertexFields, carrierFields, edgeFloats, vertexFloats, six, carrierFloats};
 
-pub fn body_fields(kind: BodyKind) -> [u32; 1]
-    ensures { λ r. ⌜ r ≡ bodyFields kind ⌝ }
+pub fn body_fields(kind: BodyKind, office: u32) -> [u32; 2]
+    ensures { λ r. ⌜ r ≡ bodyFields kind office ⌝ }
+{
+    [kind_tag(kind), office]
+}
+
+// A set keeps the office.
+pub fn kind_fields(kind: BodyKind) -> [u32; 1]
+    ensures { λ r. ⌜ r ≡ kindFields kind ⌝ }
 {
     [kind_tag(kind)]
 }

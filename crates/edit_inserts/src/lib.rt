@@ -1,5 +1,5 @@
-// For callers: a record more, with empty lists. Its id, or 9; 1 for a tolerance that no record may have; 8 for no slot. No reference is
-// checked. Inner: `insert_fields`.
+// For callers: a record more, with empty lists, a body in the office that makes it. Its id, or 9; 1 for an office above 1, or a tolerance that no record may have; 8 for
+// no slot. No reference is checked. Inner: `insert_fields`.
 use edit_core::Inserted;
 use edit_core::insert;
 use edit_fields::body_fields;
@@ -32,6 +32,7 @@ use memory_records::records::Sense;
 ghost use mathlib.Core.Path.{_≡_};
 ghost use mathlib.Core.Bool.{true};
 ghost use mathlib.Core.List.{[]};
+ghost use lib.Dec.{leb};
 ghost use Rattle.meaning.specs.Edits.{toleranceOk};
 ghost use Rattle.edit_core.specs.Answers.{insertAnswer, insertWords, insertReals};
 ghost use Rattle.edit_fields.specs.Fields.{bodyFields, regionFields, faceFields, finFields, edgeFields, vertexFields, carrierFields, edgeFloats, vertexFloats, carrierFloats, shellFields, loopFields};
@@ -78,18 +79,21 @@ pub fn insert_loop(room: &[usize; 10], words: &mut [u32], reals: &mut [f64], fac
     insert_fields(room, words, reals, LOOPS, &fields)
 }
 
+// Into the office that is named (W-206).
 pub fn insert_body(
     room: &[usize; 10],
     words: &mut [u32],
     reals: &mut [f64],
+    office: u32,
     kind: BodyKind,
 ) -> Inserted
-    ensures answer { λ r. ⌜ r ≡ insertAnswer (now (room .entry)) (now (words .entry)) (now (reals .entry)) true BODIES ⌝ }
-    ensures tables { λ _. ⌜ now (words .exit) ≡ insertWords (now (room .entry)) (now (words .entry)) (now (reals .entry)) true BODIES (bodyFields kind) ⌝ }
-    ensures floats { λ _. ⌜ now (reals .exit) ≡ insertReals (now (room .entry)) (now (words .entry)) (now (reals .entry)) true BODIES [] ⌝ }
+    ensures answer { λ r. ⌜ r ≡ insertAnswer (now (room .entry)) (now (words .entry)) (now (reals .entry)) (leb office 1) BODIES ⌝ }
+    ensures tables { λ _. ⌜ now (words .exit) ≡ insertWords (now (room .entry)) (now (words .entry)) (now (reals .entry)) (leb office 1) BODIES (bodyFields kind office) ⌝ }
+    ensures floats { λ _. ⌜ now (reals .exit) ≡ insertReals (now (room .entry)) (now (words .entry)) (now (reals .entry)) (leb office 1) BODIES [] ⌝ }
 {
-    let fields = body_fields(kind);
-    insert_fields(room, words, reals, BODIES, &fields)
+    let fields = body_fields(kind, office);
+    let none: [f64; 0] = [];
+    insert(room, words, reals, office <= 1, BODIES, &fields, &none)
 }
 
 pub fn insert_region(

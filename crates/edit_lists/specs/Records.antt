@@ -64,8 +64,8 @@ module _ (at : ℕ) (l w : List ℕ) (fits : at + suc (length l) ≤ length w) w
 -- 7 an edge's fins
 
 module _ (l w : List ℕ) where
-  pub body-list : length w ≡ 18 → length l ≤ 16 → bodyOf (withList 1 l w) ≡ record { kind = bodyOf w .kind; regions = l }
-  body-list e h = rw (word-before 1 l w (omega arith) 0 (omega arith), list-there 1 l w (omega arith))
+  pub body-list : length w ≡ 19 → length l ≤ 16 → bodyOf (withList 2 l w) ≡ record { kind = bodyOf w .kind; office = bodyOf w .office; regions = l }
+  body-list e h = rw (word-before 2 l w (omega arith) 0 (omega arith), word-before 2 l w (omega arith) 1 (omega arith), list-there 2 l w (omega arith))
 
   pub region-list : length w ≡ 19 → length l ≤ 16 → regionOf (withList 2 l w) ≡ record { body = regionOf w .body; solid = regionOf w .solid; shells = l }
   region-list e h =
@@ -141,7 +141,8 @@ pub still-ok : (j : ℕ) (l w : List ℕ) (x : List Float) → j < 8 → length 
     → recordOk (word listTables j) (withList (word listPlaces j) l w) x ≡ true
 unfolding recordOk
 still-ok zero l w x i e h ok =
-    rw (word-before 1 l w (omega arith) 0 (omega arith), word-length 1 l w (omega arith), le-leb (length l) 16 h, and-both (leb (word w 0) 4) (leb (word w 1) 16) ok .0)
+    let a = and-both (leb (word w 0) 4) (leb (word w 1) 1) (and-both (leb (word w 0) 4 && leb (word w 1) 1) (leb (word w 2) 16) ok .0) in
+    rw (word-before 2 l w (omega arith) 0 (omega arith), word-before 2 l w (omega arith) 1 (omega arith), word-length 2 l w (omega arith), le-leb (length l) 16 h, a .0, a .1)
 still-ok (suc zero) l w x i e h ok =
     rw (word-before 2 l w (omega arith) 1 (omega arith), word-length 2 l w (omega arith), le-leb (length l) 16 h, and-both (leb (word w 1) 1) (leb (word w 2) 16) ok .0)
 still-ok (suc (suc zero)) l w x i e h ok =

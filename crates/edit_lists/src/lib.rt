@@ -1,5 +1,5 @@
-// For callers: editing the eight lists, an entry put, appended or struck (model.rs, `RawEditor`). `specs/Answers.antt` says what each call
-// answers and leaves. Inner: `start`, and the module `places`, which ask for what the refusals have tested.
+// Inner: editing the eight lists, an entry put, appended or struck (model.rs, `RawEditor`), whatever the office; callers ask `office_bodies`. `specs/Answers.antt` says what each call
+// answers and leaves. Besides, `start`, and the module `places`, which ask for what the refusals have tested.
 pub mod places;
 
 use crate::places::append_at;

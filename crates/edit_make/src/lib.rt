@@ -1,6 +1,6 @@
 // For callers: `make`, an empty model (model.rs, `Model::new`) of a version (W-211). `specs/Answers.antt` says what it answers and leaves.
 //
-// The family edit_: how a model is made and changed by hand. Call edit_make, edit_inserts, edit_sets, edit_lists. Read edit_core, the core of every
+// The family edit_: how a model is made and changed by hand. Call edit_make, edit_inserts, edit_sets; lists are edited by an office (office_bodies). Read edit_core, the core of every
 // insert and edit, then edit_tags and edit_fields, a record's fields as words and floats, then those; edit_effects says what they do to the model.
 use memory_layout::names::PRECISION;
 use memory_readable::lent_ok;

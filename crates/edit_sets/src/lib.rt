@@ -1,12 +1,12 @@
-// For callers: other fields in a record, its lists kept. 0, or 9; 1 for a tolerance that no record may have; 2 for a missing record. Inner: `set_fields`.
+// For callers: other fields in a record, its lists kept, and a body's office. 0, or 9; 1 for an office above 1, or a tolerance that no record may have; 2 for a missing record. Inner: `set_fields`.
 use edit_core::edit;
-use edit_fields::body_fields;
 use edit_fields::carrier_fields;
 use edit_fields::carrier_floats;
 use edit_fields::edge_fields;
 use edit_fields::edge_floats;
 use edit_fields::face_fields;
 use edit_fields::fin_fields;
+use edit_fields::kind_fields;
 use edit_fields::region_fields;
 use edit_fields::vertex_fields;
 use edit_fields::vertex_floats;
@@ -25,15 +25,18 @@ use memory_layout::names::REGIONS;
 use memory_layout::names::SHELLS;
 use memory_layout::names::SURFACES;
 use memory_layout::names::VERTICES;
+use memory_offices::body_for;
 use memory_records::records::BodyKind;
 use memory_records::records::Ref;
 use memory_records::records::Sense;
 ghost use mathlib.Core.Path.{_≡_};
 ghost use mathlib.Core.Bool.{true};
 ghost use mathlib.Core.List.{[], _∷_};
+ghost use lib.Dec.{leb};
 ghost use Rattle.meaning.specs.Edits.{toleranceOk};
+ghost use Rattle.memory_offices.specs.Sight.{bodyAsked};
 ghost use Rattle.edit_core.specs.Answers.{editNumber, editWords, editReals};
-ghost use Rattle.edit_fields.specs.Fields.{bodyFields, regionFields, faceFields, finFields, edgeFields, vertexFields, carrierFields, edgeFloats, vertexFloats, carrierFloats, shellFields, loopFields};
+ghost use Rattle.edit_fields.specs.Fields.{kindFields, regionFields, faceFields, finFields, edgeFields, vertexFields, carrierFields, edgeFloats, vertexFloats, carrierFloats, shellFields, loopFields};
 ghost use Rattle.memory_layout.specs.Names.{BODIES, REGIONS, FACES, FINS, EDGES, VERTICES, CURVES, SURFACES, SHELLS, LOOPS, AT-FIN-PCURVE};
 ghost use Rattle.edit_core.specs.Facts.{Fields};
 ghost use Rattle.edit_tags.specs.Tags.{mark};
@@ -97,19 +100,33 @@ pub fn set_fin_geometry(room: &[usize; 10], words: &mut [u32], reals: &mut [f64]
     set_fields(room, words, reals, FINS, id, AT_FIN_PCURVE, &fields)
 }
 
+// The kind of a body, as an office sees it (W-206); it stays with that office.
 pub fn set_body(
     room: &[usize; 10],
     words: &mut [u32],
     reals: &mut [f64],
+    office: u32,
     id: usize,
     kind: BodyKind,
 ) -> u32
-    ensures answer { λ r. ⌜ r ≡ editNumber (now (room .entry)) (now (words .entry)) (now (reals .entry)) true BODIES id ⌝ }
-    ensures tables { λ _. ⌜ now (words .exit) ≡ editWords (now (room .entry)) (now (words .entry)) (now (reals .entry)) true BODIES id 0 (bodyFields kind) ⌝ }
-    ensures floats { λ _. ⌜ now (reals .exit) ≡ editReals (now (room .entry)) (now (words .entry)) (now (reals .entry)) true BODIES id [] ⌝ }
+    ensures answer { λ r. ⌜ r ≡ editNumber (now (room .entry)) (now (words .entry)) (now (reals .entry)) (leb office 1) BODIES (bodyAsked (now (room .entry)) (now (words .entry)) (now (reals .entry)) office id) ⌝ }
+    ensures tables { λ _. ⌜ now (words .exit) ≡ editWords (now (room .entry)) (now (words .entry)) (now (reals .entry)) (leb office 1) BODIES (bodyAsked (now (room .entry)) (now (words .entry)) (now (reals .entry)) office id) 0 (kindFields kind) ⌝ }
+    ensures floats { λ _. ⌜ now (reals .exit) ≡ editReals (now (room .entry)) (now (words .entry)) (now (reals .entry)) (leb office 1) BODIES (bodyAsked (now (room .entry)) (now (words .entry)) (now (reals .entry)) office id) [] ⌝ }
 {
-    let fields = body_fields(kind);
-    set_fields(room, words, reals, BODIES, id, 0, &fields)
+    let fields = kind_fields(kind);
+    let none: [f64; 0] = [];
+    let seen = body_for(&words[..], office, id);
+    edit(
+        room,
+        words,
+        reals,
+        office <= 1,
+        BODIES,
+        seen,
+        0,
+        &fields,
+        &none,
+    )
 }
 
 pub fn set_region(

@@ -12,6 +12,7 @@ use lib.Ieee.Scale.{finite}
 use borrow.Author.Tests.{leb-true, le-leb}
 use Rattle.interval_arithmetic.specs.Ops.{zeroF}
 use Rattle.geom_lines_planes.specs.declared.tolerance.Version.the-variants.{First}
+use Rattle.meaning.specs.Model.{office-0}
 use Rattle.meaning.specs.Edits.{precisionOk}
 use Rattle.meaning_list_laws.specs.Tests.{and-both, and-true, both-ways}
 use Rattle.memory_layout.specs.Layout.{word}
@@ -57,8 +58,11 @@ module _ (b : List ℕ) (bytes : Bytes b) where
   starts-head =
       ap (λ f. starts (recordImage PRECISION-RECORD f) b) (fields-again b)
       ∙ starts-record PRECISION-RECORD (fieldsIn PRECISION-RECORD b) b (unfold fieldsIn wordsIn in refl) (unfold fieldsIn floatsIn in refl)
-      ∙ rw (starts-little 2 (word marks PRECISION-RECORD) b (omega arith) bytes, its-words, its-float, no-lists) (and-true _)
+      ∙ rw (no-office, starts-little 2 (word marks PRECISION-RECORD) b (omega arith) bytes, its-words, its-float, no-lists) (and-true _)
     where
+      no-office : fieldsIn PRECISION-RECORD b .office ≡ office-0
+      no-office = unfold fieldsIn in refl
+
       no-lists : starts (lists (fieldsIn PRECISION-RECORD b .lists)) (drop 50 b) ≡ true
       no-lists = unfold fieldsIn listsIn lists starts in refl
 

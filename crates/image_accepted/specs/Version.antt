@@ -10,6 +10,7 @@ use borrow.Author.Tests.{leb-true, le-leb, eq-eqb, ne-eqb}
 use Rattle.geom_lines_planes.specs.declared.tolerance.Version.{Version}
 use Rattle.geom_lines_planes.specs.declared.tolerance.Version.the-variants.{First, Second}
 use Rattle.meaning.specs.Lists.{all, joined}
+use Rattle.meaning.specs.Model.{office-0}
 use Rattle.meaning_list_laws.specs.Tests.{and-both, and-true, and-false, both-ways}
 use Rattle.memory_layout.specs.Layout.{word}
 use Rattle.memory_layout.specs.Laid.{versionTag}
@@ -109,7 +110,7 @@ second-good b h e = rw e (begins ∙ tests)
 
     begins : starts (versionImage Second) b ≡ ((leb 2 (length b) && eqb (number 2 b) (word marks VERSION-RECORD)) && (leb 4 (length b - 2) && eqb (number 4 (drop 2 b)) 2))
     begins =
-        starts-record VERSION-RECORD (record { words = 2 ∷ []; floats = []; lists = [] }) b refl refl
+        starts-record VERSION-RECORD (record { office = office-0; words = 2 ∷ []; floats = []; lists = [] }) b refl refl
         ∙ rw (starts-little 2 (word marks VERSION-RECORD) b (omega arith) h, starts-words (2 ∷ []) (drop 2 b) (unfold all in refl) (below-drop 256 2 b h), length-drop 2 b)
         (simp (and-true, eqb-sym 2))
 

@@ -16,7 +16,7 @@ use Rattle.geom_lines_planes.specs.declared.tolerance.Tolerance.the-variants.{O
 use Rattle.geom_lines_planes.specs.Geometry.{linePoint}
 use Rattle.float_vectors.specs.Space.{along}
 use Rattle.meaning.specs.Lists.{all}
-use Rattle.meaning.specs.Model.{BodyKind, Sense, Body, Region, Shell, Face, Loop, Fin, Edge, Vertex}
+use Rattle.meaning.specs.Model.{BodyKind, Sense, office-0, Body, Region, Shell, Face, Loop, Fin, Edge, Vertex}
 use Rattle.meaning.specs.Split.{Cut, splitPoint}
 use Rattle.meaning.specs.Formed.{StoredIds, belowMaybe}
 use Rattle.meaning_list_laws.specs.Lists.{all-none, all-append, all-weaken}
@@ -214,13 +214,13 @@ module _ (room w : List ℕ) (x : List Float) (f : Fit room w x) (ids : StoredId
         short = tt;
       }))
 
-  carrier-fit : (k i : ℕ) → word wordCounts k ≡ 1 → word floatCounts k ≡ 6 → word listCounts k ≡ 0 → leb (word (wordsOf room w k i) 0) 2 ≡ true
+  carrier-fit : (k i : ℕ) → k < 12 → word wordCounts k ≡ 1 → word floatCounts k ≡ 6 → word listCounts k ≡ 0 → leb (word (wordsOf room w k i) 0) 2 ≡ true
       → Fitting k (carrierFields (carrierOf (wordsOf room w k i) (realsOf room x k i)))
-  carrier-fit k i p q r e =
+  carrier-fit k i g p q r e =
       let n : ℕ = word (wordsOf room w k i) 0 in
       let h : n ≤ 2 = leb-true n 2 e in
-      carrier-fits (record { words = n ∷ []; floats = realsOf room x k i; lists = [] })
-      (record { small = below-cons WIDE n [] (omega arith) (all-none _); double = record-floats k i; short = tt }) k p q r
+      carrier-fits (record { office = office-0; words = n ∷ []; floats = realsOf room x k i; lists = [] })
+      (record { small = below-cons WIDE n [] (omega arith) (all-none _); double = record-floats k i; short = tt }) k g p q r
 
   counts-small : Words (rooms (decode room w x))
   unfolding decode
@@ -248,8 +248,8 @@ module _ (room w : List ℕ) (x : List Float) (f : Fit room w x) (ids : StoredId
         fins = fin-fit;
         edges = edge-fit;
         vertices = λ i _. vertex-fit i;
-        curves = λ i h. carrier-fit 8 i refl refl refl (f .rows 8 i (omega arith) h);
-        surfaces = λ i h. carrier-fit 9 i refl refl refl (f .rows 9 i (omega arith) h);
+        curves = λ i h. carrier-fit 8 i (omega arith) refl refl refl (f .rows 8 i (omega arith) h);
+        surfaces = λ i h. carrier-fit 9 i (omega arith) refl refl refl (f .rows 9 i (omega arith) h);
       }
 
 -- ---- splits

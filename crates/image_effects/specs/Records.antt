@@ -7,11 +7,13 @@ use mathlib.Core.Bool.{Bool, true, false, _&&_, false≢true}
 use mathlib.Core.List.{List, [], _∷_}
 use lib.Dec.{leb}
 use lib.ListN.{length, getD, drop}
-use borrow.Author.Tests.{leb-true}
+use borrow.Author.Tests.{ne-eqb, leb-true}
 use Rattle.meaning.specs.Lists.{allBelow}
+use Rattle.meaning.specs.Model.{Office, office-0, office-1}
 use Rattle.meaning_list_laws.specs.Tests.{and-both, allBelow-at}
 use Rattle.memory_layout.specs.Layout.{wordStrides, word}
-use Rattle.memory_layout.specs.Decode.{listAt, bodyOf, regionOf, shellOf, faceOf, loopOf, finOf, edgeOf, vertexOf, carrierOf}
+use Rattle.memory_layout.specs.Decode.{listAt, officeOf, bodyOf, regionOf, shellOf, faceOf, loopOf, finOf, edgeOf, vertexOf, carrierOf}
+use Rattle.memory_layout.specs.Laid.{office}
 use Rattle.memory_writes.specs.Put.{over}
 use Rattle.memory_writes.specs.Over.{length-over, entry-behind, entry-written}
 use Rattle.edit_lists.specs.Place.{withList}
@@ -19,7 +21,7 @@ use Rattle.edit_lists.specs.Records.{word-before, word-behind, word-length, lis
 use Rattle.image_format.specs.Fields.{listLimitsOf, Fields, wordCounts, listCounts, listPlacesOf, listIn, bodyIn, regionIn, shellIn, faceIn, loopIn, finIn, edgeIn, vertexIn, carrierIn}
 use Rattle.image_laws.specs.Sizes.{places-many}
 use Rattle.image_record_test.specs.Spelled.{within}
-use Rattle.image_loading.specs.Laid.{listsLaid, recordLaid}
+use Rattle.image_loading.specs.Laid.{listsLaid, frontOf, recordLaid}
 
 -- ---- places that lie apart
 
@@ -174,36 +176,48 @@ lists-there from (p ∷ ps) (n ∷ ns) ls w to e h l (suc j) g =
 
 -- ---- a record
 
-places-apart : (k : ℕ) → k < 10 → apart (word wordCounts k) (getD listPlacesOf k []) (getD listLimitsOf k []) (word wordStrides k) ≡ true
+-- how many words stand before its lists: of a body its kind and office
+abbrev pub frontCounts : List ℕ
+frontCounts = 2 ∷ drop 1 wordCounts
+
+front-many : (k : ℕ) (f : Fields) → length (f .words) ≡ word wordCounts k → length (frontOf k f) ≡ word frontCounts k
+unfolding frontOf
+front-many zero f e = refl
+front-many (suc k) f e = rw (ne-eqb (suc k) 0 (λ q. omega arith)) e
+
+places-apart : (k : ℕ) → k < 10 → apart (word frontCounts k) (getD listPlacesOf k []) (getD listLimitsOf k []) (word wordStrides k) ≡ true
 unfolding allBelow apart
-places-apart k h = allBelow-at (λ j. apart (word wordCounts j) (getD listPlacesOf j []) (getD listLimitsOf j []) (word wordStrides j)) 10 k refl h
+places-apart k h = allBelow-at (λ j. apart (word frontCounts j) (getD listPlacesOf j []) (getD listLimitsOf j []) (word wordStrides j)) 10 k refl h
 
 -- the words r of a record of table k, which were w, have the fields f
 pub record Laid (k : ℕ) (f : Fields) (w r : List ℕ) : Type 0 where
   pub long : length r ≡ word wordStrides k
-  pub fields : (q : ℕ) → q < word wordCounts k → word r q ≡ word (f .words) q
-  pub lists : (j : ℕ) → j < word listCounts k → Listed (word wordCounts k) (word (getD listPlacesOf k []) j) (word (getD listLimitsOf k []) j) (listIn f j) w r
+  pub fields : (q : ℕ) → q < word frontCounts k → word r q ≡ word (frontOf k f) q
+  pub lists : (j : ℕ) → j < word listCounts k → Listed (word frontCounts k) (word (getD listPlacesOf k []) j) (word (getD listLimitsOf k []) j) (listIn f j) w r
 
 module _ (k : ℕ) (f : Fields) (w : List ℕ) (h : k < 10) (many : length (f .words) ≡ word wordCounts k) (short : within (getD listLimitsOf k []) (f .lists) ≡ true)
     (whole : length w ≡ word wordStrides k) where
   abbrev v : List ℕ
-  v = over 0 (f .words) w
+  v = over 0 (frontOf k f) w
 
-  room : 0 + length (f .words) ≤ length w
-  room = let a = apart-le (word wordCounts k) (getD listPlacesOf k []) (getD listLimitsOf k []) (word wordStrides k) (places-apart k h) in omega arith
+  front : length (frontOf k f) ≡ word frontCounts k
+  front = front-many k f many
+
+  room : 0 + length (frontOf k f) ≤ length w
+  room = let e = front in let a = apart-le (word frontCounts k) (getD listPlacesOf k []) (getD listLimitsOf k []) (word wordStrides k) (places-apart k h) in omega arith
 
   v-long : length v ≡ word wordStrides k
-  v-long = length-over 0 (f .words) w room ∙ whole
+  v-long = length-over 0 (frontOf k f) w room ∙ whole
 
-  field-there : (q : ℕ) → q < word wordCounts k → word v q ≡ word (f .words) q
-  field-there q g = ap (word v) (sym (zero-add q)) ∙ entry-written 0 q (f .words) w 0 (omega arith) (omega arith)
+  field-there : (q : ℕ) → q < word frontCounts k → word v q ≡ word (frontOf k f) q
+  field-there q g = let e = front in ap (word v) (sym (zero-add q)) ∙ entry-written 0 q (frontOf k f) w 0 (omega arith) (omega arith)
 
   pub record-laid : Laid k f w (recordLaid k f w)
   unfolding recordLaid
   record-laid =
       let ps : List ℕ = getD listPlacesOf k [] in
       let ns : List ℕ = getD listLimitsOf k [] in
-      let n : ℕ = word wordCounts k in
+      let n : ℕ = word frontCounts k in
       let to : ℕ = word wordStrides k in
       let e : apart n ps ns to ≡ true = places-apart k h in
       let m = places-many k h in
@@ -217,23 +231,31 @@ module _ (k : ℕ) (f : Fields) (w : List ℕ) (h : k < 10) (many : length (f .w
               count = a .count;
               entries = a .entries;
               short = a .short;
-              rest = λ q b c. a .rest q b c ∙ entry-behind 0 q (f .words) w 0 (let d = a .behind in omega arith) room;
+              rest = λ q b c. a .rest q b c ∙ entry-behind 0 q (frontOf k f) w 0 (let d = a .behind in let e = front in omega arith) room;
             };
       }
 
 -- ---- and so it reads as they say, table by table
 
+office-back : (o : Office) → officeOf (office o) ≡ o
+office-back office-0 = refl
+office-back office-1 = refl
+
 module _ (f : Fields) (w r : List ℕ) where
   pub body-laid : Laid 0 f w r → bodyOf r ≡ bodyIn f
-  body-laid l = rw (l .fields 0 (omega arith), l .lists 0 (omega arith) .entries)
+  unfolding frontOf
+  body-laid l = rw (l .fields 0 (omega arith), l .fields 1 (omega arith), office-back (f .office), l .lists 0 (omega arith) .entries)
 
   pub region-laid : Laid 1 f w r → regionOf r ≡ regionIn f
+  unfolding frontOf
   region-laid l = rw (l .fields 0 (omega arith), l .fields 1 (omega arith), l .lists 0 (omega arith) .entries)
 
   pub shell-laid : Laid 2 f w r → shellOf r ≡ shellIn f
+  unfolding frontOf
   shell-laid l = rw (l .fields 0 (omega arith), l .lists 0 (omega arith) .entries, l .lists 1 (omega arith) .entries, l .lists 2 (omega arith) .entries)
 
   pub face-laid : Laid 3 f w r → faceOf r ≡ faceIn f
+  unfolding frontOf
   face-laid l =
       rw (
         l .fields 0 (omega arith),
@@ -247,12 +269,15 @@ module _ (f : Fields) (w r : List ℕ) where
       )
 
   pub loop-laid : Laid 4 f w r → loopOf r ≡ loopIn f
+  unfolding frontOf
   loop-laid l = rw (l .fields 0 (omega arith), l .lists 0 (omega arith) .entries)
 
   pub fin-laid : Laid 5 f w r → finOf r ≡ finIn f
+  unfolding frontOf
   fin-laid l = rw (l .fields 0 (omega arith), l .fields 1 (omega arith), l .fields 2 (omega arith), l .fields 3 (omega arith))
 
   pub edge-laid : Laid 6 f w r → edgeOf r (f .floats) ≡ edgeIn f
+  unfolding frontOf
   edge-laid l =
       rw (
         l .fields 0 (omega arith),
@@ -266,10 +291,13 @@ module _ (f : Fields) (w r : List ℕ) where
       )
 
   pub vertex-laid : Laid 7 f w r → vertexOf r (f .floats) ≡ vertexIn f
+  unfolding frontOf
   vertex-laid l = rw (l .fields 0 (omega arith))
 
   pub curve-laid : Laid 8 f w r → carrierOf r (f .floats) ≡ carrierIn f
+  unfolding frontOf
   curve-laid l = rw (l .fields 0 (omega arith))
 
   pub surface-laid : Laid 9 f w r → carrierOf r (f .floats) ≡ carrierIn f
+  unfolding frontOf
   surface-laid l = rw (l .fields 0 (omega arith))

@@ -9,7 +9,7 @@ use lib.ListN.{length, drop}
 use Rattle.geom_lines_planes.specs.declared.tolerance.Version.{Version}
 use Rattle.geom_lines_planes.specs.declared.tolerance.Version.the-variants.{First, Second}
 use Rattle.meaning.specs.Lists.{run, joined, allBelow, every}
-use Rattle.meaning.specs.Model.{Model, Table, largest, Body, Region, Shell, Face, Loop, Edge, Vertex}
+use Rattle.meaning.specs.Model.{Model, Table, largest, office-0, Body, Region, Shell, Face, Loop, Edge, Vertex}
 use Rattle.meaning.specs.Edits.{toleranceOk, precisionOk}
 use Rattle.memory_layout.specs.Names.{BODIES, REGIONS, SHELLS, FACES, LOOPS, FINS, EDGES, VERTICES, CURVES, SURFACES, PRECISION}
 use Rattle.memory_layout.specs.Layout.{word, real}
@@ -20,7 +20,7 @@ use Rattle.image_format.specs.Fields.{Fields, PRECISION-RECORD, VERSION-
 -- ---- written
 
 abbrev pub precisionFields : Model → Fields
-precisionFields m = record { words = rooms m; floats = m .precision ∷ []; lists = [] }
+precisionFields m = record { office = office-0; words = rooms m; floats = m .precision ∷ []; lists = [] }
 
 -- the records of table k in id order
 unfoldable pub tableImage : {A : Type 0} → ℕ → (A → Fields) → Table A → List ℕ
@@ -44,7 +44,7 @@ recordsImage m =
 -- "with a mark of its own and the version": "A version 1 model is written as before", with no such record
 unfoldable pub versionImage : Version → List ℕ
 versionImage First = []
-versionImage Second = recordImage VERSION-RECORD (record { words = versionTag Second ∷ []; floats = []; lists = [] })
+versionImage Second = recordImage VERSION-RECORD (record { office = office-0; words = versionTag Second ∷ []; floats = []; lists = [] })
 
 unfoldable pub imageOf : Model → List ℕ
 imageOf m = versionImage (m .version) ++ recordsImage m

@@ -1,4 +1,4 @@
--- docs/IMAGE.md's worked record; a model with one record of each table, read back; and images that are refused, each for one reason: by evaluation. Assumes nothing.
+-- docs/IMAGE.md's worked records; a model with one record of each table, read back; and images that are refused, each for one reason: by evaluation. Assumes nothing.
 use Prim.Native.Nat.{ℕ}
 use mathlib.Core.Path.{_≡_, refl}
 use mathlib.Core.Bool.{true, false}
@@ -11,11 +11,12 @@ use Rattle.geom_lines_planes.specs.declared.tolerance.Tolerance.the-variants.{O
 use Rattle.geom_lines_planes.specs.declared.tolerance.Version.{Version}
 use Rattle.geom_lines_planes.specs.declared.tolerance.Version.the-variants.{First, Second}
 use Rattle.geom_carriers.specs.declared.Carrier.the-variants as Carriers
-use Rattle.meaning.specs.Model.{Model, Table, solid, negative, body, region, shell, face, loop, fin, edge, vertex}
+use Rattle.meaning.specs.Model.{Model, Table, Body, solid, office-0, office-1, negative, body, region, shell, face, loop, fin, edge, vertex}
 use Rattle.meaning.specs.Computing.{computing}
-use Rattle.memory_layout.specs.Names.{EDGES}
+use Rattle.memory_layout.specs.Names.{BODIES, EDGES}
+use Rattle.memory_layout.specs.Decode.{officeOf}
 use Rattle.image_format.specs.Bytes.{little, floats, lists, number, wordsIn, floatsIn, listsIn, sameBytes}
-use Rattle.image_format.specs.Fields.{recordImage, fieldsIn, behind, edgeFields}
+use Rattle.image_format.specs.Fields.{recordImage, fieldsIn, behind, bodyFields, edgeFields}
 use Rattle.image_format.specs.Image.{tableImage, recordsImage, versionImage, imageOf, countIn, behindRecords, tableBytes, fieldsAt, modelOf, versionIn, recordsIn, modelIn, held, accepted}
 
 -- for evaluation: opens every definition of this crate and what they are made of
@@ -40,6 +41,15 @@ edge-worked : recordImage EDGES (edgeFields (record { fins = 1 ∷ 2 ∷ []; sta
 unfolding bytes
 edge-worked = refl
 
+body-worked : recordImage BODIES (bodyFields (record { kind = solid; office = office-1; regions = 7 ∷ 258 ∷ [] }))
+    ≡ 0x42 ∷ 0x50
+    ∷ 3 ∷ 0 ∷ 0 ∷ 0
+    ∷ 2 ∷ 0 ∷ 0 ∷ 0
+    ∷ 7 ∷ 0 ∷ 0 ∷ 0 ∷ 2 ∷ 1 ∷ 0 ∷ 0
+    ∷ []
+unfolding bytes
+body-worked = refl
+
 -- ---- one record of each table
 
 abbrev one : {A : Type 0} → A → Table A
@@ -50,7 +60,7 @@ small =
     record {
       version = First;
       precision = half;
-      bodies = one (record { kind = solid; regions = 7 ∷ [] });
+      bodies = one (record { kind = solid; office = office-0; regions = 7 ∷ [] });
       regions = one (record { body = 1; solid = true; shells = [] });
       shells = one (record { region = 2; faces = 3 ∷ []; wireEdges = []; acornVertices = 4 ∷ 5 ∷ [] });
       faces = one (record { front = some 6; back = none; loops = 8 ∷ []; surface = none; sense = negative });
@@ -136,13 +146,13 @@ wrong-refused : map accepted wrong ≡ replicate 16 false
 unfolding bytes
 wrong-refused = refl
 
--- as many regions as a body may list, and one more
-abbrev listing : Version → ℕ → Model
-listing v n =
+-- bodies alone
+abbrev bare : Version → Table Body → Model
+bare v t =
     record {
       version = v;
       precision = half;
-      bodies = one (record { kind = solid; regions = replicate n 0 });
+      bodies = t;
       regions = record { used = 0; slot = small .regions .slot };
       shells = record { used = 0; slot = small .shells .slot };
       faces = record { used = 0; slot = small .faces .slot };
@@ -153,6 +163,10 @@ listing v n =
       curves = record { used = 0; slot = small .curves .slot };
       surfaces = record { used = 0; slot = small .surfaces .slot };
     }
+
+-- as many regions as a body may list, and one more
+abbrev listing : Version → ℕ → Model
+listing v n = bare v (one (record { kind = solid; office = office-0; regions = replicate n 0 }))
 
 sixteen-accepted : map (λ n. accepted (imageOf (listing First n))) (16 ∷ 17 ∷ []) ≡ true ∷ false ∷ []
 unfolding bytes
@@ -203,3 +217,34 @@ misnamed =
 misnamed-refused : map accepted misnamed ≡ replicate 11 false
 unfolding bytes
 misnamed-refused = refl
+
+-- ---- two offices (W-206)
+
+-- a body of each office
+abbrev shared : List ℕ
+shared = imageOf (bare First (record { used = 2; slot = λ i. record { kind = solid; office = officeOf i; regions = i ∷ [] } }))
+
+-- "office 1's bodies under a second body mark", all else the same
+shared-marks : drop 50 shared
+    ≡ (0x42 ∷ 0x4f ∷ 3 ∷ 0 ∷ 0 ∷ 0 ∷ 1 ∷ 0 ∷ 0 ∷ 0 ∷ 0 ∷ 0 ∷ 0 ∷ 0 ∷ [])
+    ++ (0x42 ∷ 0x50 ∷ 3 ∷ 0 ∷ 0 ∷ 0 ∷ 1 ∷ 0 ∷ 0 ∷ 0 ∷ 1 ∷ 0 ∷ 0 ∷ 0 ∷ [])
+unfolding bytes
+shared-marks = refl
+
+shared-accepted : accepted shared ≡ true
+unfolding bytes
+shared-accepted = refl
+
+shared-read : map (λ i. body (modelIn shared) i .office) (0 ∷ 1 ∷ []) ≡ office-0 ∷ office-1 ∷ []
+unfolding bytes
+shared-read = refl
+
+-- "so old images read as office 0", and the same under the second mark as office 1
+old-read : map (λ b. body (modelIn b) 0 .office) (old ∷ set old 51 0x50 ∷ []) ≡ office-0 ∷ office-1 ∷ []
+unfolding bytes
+old-read = refl
+
+-- both marks of a body, the letters before and behind them, and the second one of a region
+marks-known : map accepted (old ∷ set old 51 0x50 ∷ set old 51 0x4e ∷ set old 51 0x51 ∷ set (other 64 0x42) 65 0x50 ∷ []) ≡ true ∷ true ∷ false ∷ false ∷ false ∷ []
+unfolding bytes
+marks-known = refl

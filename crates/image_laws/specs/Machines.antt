@@ -16,17 +16,17 @@ use Rattle.geom_lines_planes.specs.declared.tolerance.Version.{Version}
 use Rattle.geom_lines_planes.specs.declared.tolerance.Version.the-variants.{First, Second}
 use Rattle.geom_carriers.specs.declared.Carrier.the-variants as Carriers
 use Rattle.meaning.specs.Lists.{run, all, joined}
-use Rattle.meaning.specs.Model.{Model, Table, BodyKind, acorn, wire, sheet, solid, general, Sense, positive, negative}
+use Rattle.meaning.specs.Model.{Model, Table, BodyKind, acorn, wire, sheet, solid, general, Sense, positive, negative, office-0}
 use Rattle.meaning_list_laws.specs.Lists.{all-none, all-both, all-append, all-map}
 use Rattle.memory_layout.specs.Names.{BODIES, REGIONS, SHELLS, FACES, LOOPS, FINS, EDGES, VERTICES, CURVES, SURFACES, AT-BODY-REGIONS, AT-REGION-SHELLS, AT-SHELL-FACES, AT-SHELL-WIRES, AT-SHELL-ACORNS, AT-FACE-LOOPS, AT-LOOP-FINS, AT-EDGE-FINS}
 use Rattle.memory_layout.specs.Layout.{word, real, wordStrides, realStrides, wordAt, realAt, wordsOf, realsOf}
-use Rattle.memory_layout.specs.Decode.{listAt, maybeAt, flagAt, pointAt, vecAt, senseOf, kindOf, toleranceOf, decode}
+use Rattle.memory_layout.specs.Decode.{listAt, maybeAt, flagAt, pointAt, vecAt, senseOf, kindOf, toleranceOf, bodyOf, decode}
 use Rattle.memory_layout.specs.Laid.{bit, sense, kind, maybe, tag, own}
 use Rattle.image_format.specs.Bytes.{little, number, wordsIn, floatsIn, listsIn}
-use Rattle.image_format.specs.Fields.{Fields, marks, wordCounts, floatCounts, listCounts, PRECISION-RECORD, recordImage, fieldsIn, behind, bodyFields, regionFields, shellFields, faceFields, loopFields, finFields, edgeFields, vertexFields, carrierFields, bodyIn, regionIn, shellIn, faceIn, loopIn, finIn, edgeIn, vertexIn, carrierIn}
+use Rattle.image_format.specs.Fields.{Fields, markOf, wordCounts, floatCounts, listCounts, PRECISION-RECORD, recordImage, fieldsIn, behind, bodyFields, regionFields, shellFields, faceFields, loopFields, finFields, edgeFields, vertexFields, carrierFields, bodyIn, regionIn, shellIn, faceIn, loopIn, finIn, edgeIn, vertexIn, carrierIn}
 use Rattle.image_format.specs.Image.{tableImage, recordsImage, versionImage, imageOf, countIn, behindRecords, tableBytes, fieldsAt, modelOf, versionIn, recordsIn, modelIn}
 use Rattle.image_laws.specs.Numbers.{Below, Bytes, Words, Doubles, Lists, below-first, below-cons, below-at, below-drop, number-below, numbersIn, words-in, length-wordsIn, patterns, floats-are, flat, lists-are}
-use Rattle.image_laws.specs.Records.{Fitting}
+use Rattle.image_laws.specs.Records.{first-marked, body-marked, Fitting}
 use Rattle.image_laws.specs.Models.{Machine}
 
 -- ---- every entry, and each
@@ -147,11 +147,12 @@ module _ (f : Fields) (w : Whole f) where
   one-word k = below-cons WIDE (word (f .words) k) [] (at k) (all-none _)
 
   pub body-fits : Fitting BODIES (bodyFields (bodyIn f))
-  body-fits = record { words = refl; floats = refl; lists = refl; small = kind-small (kindOf (word (f .words) 0)); double = tt; short = (list 0, tt) }
+  body-fits = record { mark = body-marked (f .office); words = refl; floats = refl; lists = refl; small = kind-small (kindOf (word (f .words) 0)); double = tt; short = (list 0, tt) }
 
   pub region-fits : Fitting REGIONS (regionFields (regionIn f))
   region-fits =
       record {
+        mark = first-marked REGIONS (omega arith);
         words = refl;
         floats = refl;
         lists = refl;
@@ -161,11 +162,12 @@ module _ (f : Fields) (w : Whole f) where
       }
 
   pub shell-fits : Fitting SHELLS (shellFields (shellIn f))
-  shell-fits = record { words = refl; floats = refl; lists = refl; small = one-word 0; double = tt; short = (list 0, (list 1, (list 2, tt))) }
+  shell-fits = record { mark = first-marked SHELLS (omega arith); words = refl; floats = refl; lists = refl; small = one-word 0; double = tt; short = (list 0, (list 1, (list 2, tt))) }
 
   pub face-fits : Fitting FACES (faceFields (faceIn f))
   face-fits =
       record {
+        mark = first-marked FACES (omega arith);
         words = ids-long (f .words) (sense (senseOf (word (f .words) 6)));
         floats = refl;
         lists = refl;
@@ -175,11 +177,12 @@ module _ (f : Fields) (w : Whole f) where
       }
 
   pub loop-fits : Fitting LOOPS (loopFields (loopIn f))
-  loop-fits = record { words = refl; floats = refl; lists = refl; small = one-word 0; double = tt; short = (list 0, tt) }
+  loop-fits = record { mark = first-marked LOOPS (omega arith); words = refl; floats = refl; lists = refl; small = one-word 0; double = tt; short = (list 0, tt) }
 
   pub fin-fits : Fitting FINS (finFields (finIn f))
   fin-fits =
       record {
+        mark = first-marked FINS (omega arith);
         words = refl;
         floats = refl;
         lists = refl;
@@ -194,6 +197,7 @@ module _ (f : Fields) (w : Whole f) where
   pub edge-fits : Fitting EDGES (edgeFields (edgeIn f))
   edge-fits =
       record {
+        mark = first-marked EDGES (omega arith);
         words = ids-long (f .words) (tag (toleranceOf (word (f .words) 6) (real (f .floats) 0)));
         floats = refl;
         lists = refl;
@@ -205,6 +209,7 @@ module _ (f : Fields) (w : Whole f) where
   pub vertex-fits : Fitting VERTICES (vertexFields (vertexIn f))
   vertex-fits =
       record {
+        mark = first-marked VERTICES (omega arith);
         words = refl;
         floats = refl;
         lists = refl;
@@ -214,10 +219,11 @@ module _ (f : Fields) (w : Whole f) where
       }
 
   -- the ten used counts and the precision
-  pub precision-fits : Fitting PRECISION-RECORD (record { words = map (word (f .words)) (0 ∷ 1 ∷ 2 ∷ 3 ∷ 4 ∷ 5 ∷ 6 ∷ 7 ∷ 8 ∷ 9 ∷ []); floats = real (f .floats) 0 ∷ []; lists = [] })
+  pub precision-fits : Fitting PRECISION-RECORD (record { office = office-0; words = map (word (f .words)) (0 ∷ 1 ∷ 2 ∷ 3 ∷ 4 ∷ 5 ∷ 6 ∷ 7 ∷ 8 ∷ 9 ∷ []); floats = real (f .floats) 0 ∷ []; lists = [] })
   unfolding all
   precision-fits =
       record {
+        mark = first-marked PRECISION-RECORD (omega arith);
         words = refl;
         floats = refl;
         lists = refl;
@@ -227,17 +233,17 @@ module _ (f : Fields) (w : Whole f) where
       }
 
   -- whatever the two tests of its tag say
-  pub carrier-fits : (k : ℕ) → word wordCounts k ≡ 1 → word floatCounts k ≡ 6 → word listCounts k ≡ 0 → Fitting k (carrierFields (carrierIn f))
+  pub carrier-fits : (k : ℕ) → k < 12 → word wordCounts k ≡ 1 → word floatCounts k ≡ 6 → word listCounts k ≡ 0 → Fitting k (carrierFields (carrierIn f))
   unfolding all fits
-  carrier-fits k p q r = go (eqb (word (f .words) 0) 0) (eqb (word (f .words) 0) 1)
+  carrier-fits k h p q r = go (eqb (word (f .words) 0) 0) (eqb (word (f .words) 0) 1)
     where
       go : (a b : Bool) →
           Fitting k (carrierFields (cond a (Carriers.Line (record { origin = pointAt (f .floats) 0; direction = vecAt (f .floats) 3 })) (cond b (Carriers.Plane (record { origin = pointAt (f .floats) 0; normal = vecAt (f .floats) 3 })) Carriers.Other)))
       go true b =
-          record { words = sym p; floats = sym q; lists = sym r; small = refl; double = (float 0, (float 1, (float 2, (float 3, (float 4, (float 5, tt)))))); short = tt }
+          record { mark = first-marked k h; words = sym p; floats = sym q; lists = sym r; small = refl; double = (float 0, (float 1, (float 2, (float 3, (float 4, (float 5, tt)))))); short = tt }
       go false true =
-          record { words = sym p; floats = sym q; lists = sym r; small = refl; double = (float 0, (float 1, (float 2, (float 3, (float 4, (float 5, tt)))))); short = tt }
-      go false false = record { words = sym p; floats = sym q; lists = sym r; small = refl; double = (tt, (tt, (tt, (tt, (tt, (tt, tt)))))); short = tt }
+          record { mark = first-marked k h; words = sym p; floats = sym q; lists = sym r; small = refl; double = (float 0, (float 1, (float 2, (float 3, (float 4, (float 5, tt)))))); short = tt }
+      go false false = record { mark = first-marked k h; words = sym p; floats = sym q; lists = sym r; small = refl; double = (tt, (tt, (tt, (tt, (tt, (tt, tt)))))); short = tt }
 
 -- ---- read off bytes
 
@@ -302,8 +308,8 @@ module _ (b : List ℕ) (bytes : Bytes b) where
         fins = λ i _. fin-fits (fieldsAt b FINS i) (whole-at FINS i);
         edges = λ i _. edge-fits (fieldsAt b EDGES i) (whole-at EDGES i);
         vertices = λ i _. vertex-fits (fieldsAt b VERTICES i) (whole-at VERTICES i);
-        curves = λ i _. carrier-fits (fieldsAt b CURVES i) (whole-at CURVES i) CURVES refl refl refl;
-        surfaces = λ i _. carrier-fits (fieldsAt b SURFACES i) (whole-at SURFACES i) SURFACES refl refl refl;
+        curves = λ i _. carrier-fits (fieldsAt b CURVES i) (whole-at CURVES i) CURVES (omega arith) refl refl refl;
+        surfaces = λ i _. carrier-fits (fieldsAt b SURFACES i) (whole-at SURFACES i) SURFACES (omega arith) refl refl refl;
       }
 
 pub records-bytes : (b : List ℕ) → Bytes b → Bytes (recordsIn b)
@@ -337,7 +343,7 @@ module _ (room w : List ℕ) (x : List Float) (words : Words w) (doubles : Doubl
 
   -- the fields of record i of table k, with the lists at the places given
   fields : ℕ → ℕ → List ℕ → Fields
-  fields k i places = record { words = wordsOf room w k i; floats = realsOf room x k i; lists = map (listAt (wordsOf room w k i)) places }
+  fields k i places = record { office = bodyOf (wordsOf room w k i) .office; words = wordsOf room w k i; floats = realsOf room x k i; lists = map (listAt (wordsOf room w k i)) places }
 
   fields-whole : (k i : ℕ) (places : List ℕ) → Whole (fields k i places)
   unfolding fields
@@ -351,7 +357,7 @@ module _ (room w : List ℕ) (x : List Float) (words : Words w) (doubles : Doubl
   unfolding decode fields
   machine-lent =
       record {
-        precision = precision-fits (record { words = w; floats = x; lists = [] }) (record { small = words; double = doubles; short = tt });
+        precision = precision-fits (record { office = office-0; words = w; floats = x; lists = [] }) (record { small = words; double = doubles; short = tt });
         bodies = λ i _. body-fits (fields BODIES i (AT-BODY-REGIONS ∷ [])) (fields-whole BODIES i (AT-BODY-REGIONS ∷ []));
         regions = λ i _. region-fits (fields REGIONS i (AT-REGION-SHELLS ∷ [])) (fields-whole REGIONS i (AT-REGION-SHELLS ∷ []));
         shells = λ i _. shell-fits (fields SHELLS i (AT-SHELL-FACES ∷ AT-SHELL-WIRES ∷ AT-SHELL-ACORNS ∷ [])) (fields-whole SHELLS i (AT-SHELL-FACES ∷ AT-SHELL-WIRES ∷ AT-SHELL-ACORNS ∷ []));
@@ -360,8 +366,8 @@ module _ (room w : List ℕ) (x : List Float) (words : Words w) (doubles : Doubl
         fins = λ i _. fin-fits (fields FINS i []) (fields-whole FINS i []);
         edges = λ i _. edge-fits (fields EDGES i (AT-EDGE-FINS ∷ [])) (fields-whole EDGES i (AT-EDGE-FINS ∷ []));
         vertices = λ i _. vertex-fits (fields VERTICES i []) (fields-whole VERTICES i []);
-        curves = λ i _. carrier-fits (fields CURVES i []) (fields-whole CURVES i []) CURVES refl refl refl;
-        surfaces = λ i _. carrier-fits (fields SURFACES i []) (fields-whole SURFACES i []) SURFACES refl refl refl;
+        curves = λ i _. carrier-fits (fields CURVES i []) (fields-whole CURVES i []) CURVES (omega arith) refl refl refl;
+        surfaces = λ i _. carrier-fits (fields SURFACES i []) (fields-whole SURFACES i []) SURFACES (omega arith) refl refl refl;
       }
 
 -- ---- an image is of bytes
@@ -380,7 +386,7 @@ record-bytes : (k : ℕ) (f : Fields) → Bytes (recordImage k f)
 unfolding recordImage
 record-bytes k f =
     rw (floats-are (f .floats), lists-are (f .lists))
-    (simp (all-both, little-bytes 2 (word marks k), joined-bytes (little 4) (f .words) (little-bytes 4), joined-bytes (little 8) (patterns (f .floats)) (little-bytes 8), joined-bytes (little 4) (flat (f .lists)) (little-bytes 4)))
+    (simp (all-both, little-bytes 2 (markOf k (f .office)), joined-bytes (little 4) (f .words) (little-bytes 4), joined-bytes (little 8) (patterns (f .floats)) (little-bytes 8), joined-bytes (little 4) (flat (f .lists)) (little-bytes 4)))
 
 table-image-bytes : {A : Type 0} (k : ℕ) (fields : A → Fields) (t : Table A) → Bytes (tableImage k fields t)
 unfolding tableImage

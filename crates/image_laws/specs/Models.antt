@@ -1,25 +1,24 @@
 -- The image of a model, read back: its version, then table by table. Assumes nothing.
 use Prim.Native.Nat.{ℕ, _<_}
 use native.Mathlib.Omega.{arith}
-use mathlib.Core.Path.{_≡_, sym, ap, _∙_}
+use mathlib.Core.Path.{_≡_, refl, sym, ap, _∙_}
 use mathlib.Core.Bool.{true}
 use mathlib.Core.List.{List, [], _∷_, _++_, append-assoc}
 use lib.ListN.{drop}
 use lib.Seq.{drop-append-seam}
 use Rattle.geom_lines_planes.specs.declared.tolerance.Version.{Version}
 use Rattle.geom_lines_planes.specs.declared.tolerance.Version.the-variants.{First, Second}
-use Rattle.meaning.specs.Lists.{every}
-use Rattle.meaning.specs.Model.{Model, largest}
+use Rattle.meaning.specs.Lists.{all, every}
+use Rattle.meaning.specs.Model.{Model, largest, office-0}
 use Rattle.meaning.specs.Edits.{precisionOk}
 use Rattle.memory_layout.specs.Names.{BODIES, REGIONS, SHELLS, FACES, LOOPS, FINS, EDGES, VERTICES, CURVES, SURFACES, PRECISION}
 use Rattle.memory_layout.specs.Layout.{word, real}
-use Rattle.memory_layout.specs.Laid.{rooms}
+use Rattle.memory_layout.specs.Laid.{rooms, versionTag}
 use Rattle.memory_writes.specs.Change.{SameModel}
-use Rattle.image_format.specs.Bytes.{words, floats, lists, number}
-use Rattle.image_format.specs.Fields.{Fields, PRECISION-RECORD, VERSION-RECORD, marks, recordImage, fieldsIn, behind, bodyFields, regionFields, shellFields, faceFields, loopFields, finFields, edgeFields, vertexFields, carrierFields, bodyIn, regionIn, shellIn, faceIn, loopIn, finIn, edgeIn, vertexIn, carrierIn}
+use Rattle.image_format.specs.Bytes.{number}
+use Rattle.image_format.specs.Fields.{PRECISION-RECORD, VERSION-RECORD, marks, recordImage, fieldsIn, behind, bodyFields, regionFields, shellFields, faceFields, loopFields, finFields, edgeFields, vertexFields, carrierFields, bodyIn, regionIn, shellIn, faceIn, loopIn, finIn, edgeIn, vertexIn, carrierIn}
 use Rattle.image_format.specs.Image.{precisionFields, tableImage, recordsImage, versionImage, imageOf, countIn, tableBytes, modelOf, versionIn, recordsIn, modelIn, bodyHeld, regionHeld, shellHeld, faceHeld, loopHeld, edgeHeld, vertexHeld, held}
-use Rattle.image_laws.specs.Numbers.{number-little}
-use Rattle.image_laws.specs.Records.{Fitting, fields-read, behind-read, body-back, region-back, shell-back, face-back, loop-back, fin-back, edge-back, vertex-back, carrier-back}
+use Rattle.image_laws.specs.Records.{first-marked, Fitting, record-mark, fields-read, behind-read, body-back, region-back, shell-back, face-back, loop-back, fin-back, edge-back, vertex-back, carrier-back}
 use Rattle.image_laws.specs.Tables.{Written, behind-table, table-read, table-same, held-table, same-third}
 
 -- ---- a model of numbers of 32 bits and floats of 64, as all lent memory is
@@ -134,16 +133,16 @@ module _ (m : Model) (w : Machine m) (c : List ℕ) where
 
 -- ---- and the version
 
--- a record begins with its mark
-record-mark : (k : ℕ) (f : Fields) (s : List ℕ) → word marks k < 0x1_0000 → number 2 (recordImage k f ++ s) ≡ word marks k
-unfolding recordImage
-record-mark k f s h = simp append-assoc (number-little 2 (word marks k) (words (f .words) ++ (floats (f .floats) ++ (lists (f .lists) ++ s))) h)
+version-fits : Fitting VERSION-RECORD (record { office = office-0; words = versionTag Second ∷ []; floats = []; lists = [] })
+unfolding all
+version-fits =
+    record { mark = first-marked VERSION-RECORD (omega arith); words = refl; floats = refl; lists = refl; small = refl; double = tt; short = tt }
 
 -- the precision's record does not begin as the version's
 version-back : (v : Version) (s : List ℕ) → number 2 s ≡ word marks PRECISION-RECORD → versionIn (versionImage v ++ s) ≡ v
 unfolding versionIn versionImage
 version-back First s first = rw first
-version-back Second s first = rw (record-mark VERSION-RECORD _ s (omega arith))
+version-back Second s first = rw (record-mark VERSION-RECORD _ s version-fits)
 
 records-back : (v : Version) (s : List ℕ) → number 2 s ≡ word marks PRECISION-RECORD → recordsIn (versionImage v ++ s) ≡ s
 unfolding recordsIn
@@ -155,7 +154,7 @@ module _ (m : Model) (w : Machine m) (c : List ℕ) where
   whole-parts = append-assoc (versionImage (m .version)) (recordsImage m) c
 
   begins : number 2 (recordsImage m ++ c) ≡ word marks PRECISION-RECORD
-  begins = ap (number 2) (image-parts m c) ∙ record-mark PRECISION-RECORD (precisionFields m) (from 1 m c) (omega arith)
+  begins = ap (number 2) (image-parts m c) ∙ record-mark PRECISION-RECORD (precisionFields m) (from 1 m c) (w .precision)
 
   pub model-read : SameModel (modelIn (imageOf m ++ c)) m
   unfolding modelIn
@@ -170,7 +169,7 @@ module _ (m n : Model) (s : SameModel m n) where
   unfolding recordsImage
   records-same =
       λ i.
-      recordImage PRECISION-RECORD (record { words = s .bodies .used i ∷ s .regions .used i ∷ s .shells .used i ∷ s .faces .used i ∷ s .loops .used i ∷ s .fins .used i ∷ s .edges .used i ∷ s .vertices .used i ∷ s .curves .used i ∷ s .surfaces .used i ∷ []; floats = s .precision i ∷ []; lists = [] })
+      recordImage PRECISION-RECORD (record { office = office-0; words = s .bodies .used i ∷ s .regions .used i ∷ s .shells .used i ∷ s .faces .used i ∷ s .loops .used i ∷ s .fins .used i ∷ s .edges .used i ∷ s .vertices .used i ∷ s .curves .used i ∷ s .surfaces .used i ∷ []; floats = s .precision i ∷ []; lists = [] })
       ++ table-same (s .bodies) BODIES bodyFields i
       ++ table-same (s .regions) REGIONS regionFields i
       ++ table-same (s .shells) SHELLS shellFields i

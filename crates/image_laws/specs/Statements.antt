@@ -1,24 +1,25 @@
--- W-202: "Reading what was written gives the same model, and an image that the reader accepts is the one the writer makes." (docs/IMAGE.md has the format.) W-211: images of both versions. Assumes nothing.
+-- W-202: "Reading what was written gives the same model, and an image that the reader accepts is the one the writer makes." (docs/IMAGE.md has the format.) W-211: images of both versions. W-206: of both offices. Assumes nothing.
 use native.Mathlib.Omega.{arith}
 use lib.ListN.{length, drop, length-append}
 use mathlib.Core.Path.{_≡_, refl, sym, ap, _∙_, subst}
 use mathlib.Core.Bool.{true}
-use mathlib.Core.List.{List, [], _∷_, _++_, append-nil}
+use mathlib.Core.List.{List, [], _∷_, _++_, append-nil, append-assoc}
 use Prim.Native.Nat.{ℕ}
 use lib.Ieee.{Float}
 use Rattle.geom_lines_planes.specs.declared.tolerance.Version.the-variants.{First, Second}
 use Rattle.meaning.specs.Lists.{joined}
-use Rattle.meaning.specs.Model.{Model}
+use Rattle.meaning.specs.Model.{Model, Body, office-0, body}
 use Rattle.meaning_list_laws.specs.Tests.{and-both}
+use Rattle.memory_layout.specs.Names.{BODIES}
 use Rattle.memory_layout.specs.Layout.{word}
 use Rattle.memory_layout.specs.Decode.{decode}
 use Rattle.memory_layout.specs.Readable.{readable}
 use Rattle.memory_layout.specs.Laws.{fit-of}
 use Rattle.memory_writes.specs.Change.{SameModel}
 use Rattle.image_format.specs.Bytes.{little, floats, lists, number, sameBytes}
-use Rattle.image_format.specs.Fields.{VERSION-RECORD, marks, recordImage}
-use Rattle.image_format.specs.Image.{recordsImage, versionImage, imageOf, modelOf, versionIn, modelIn, held, accepted}
-use Rattle.image_laws.specs.Numbers.{Bytes, Words, Doubles, same-bytes, same-itself}
+use Rattle.image_format.specs.Fields.{VERSION-RECORD, marks, markOf, recordImage, fieldsIn, bodyFields}
+use Rattle.image_format.specs.Image.{recordsImage, versionImage, imageOf, behindRecords, tableBytes, fieldsAt, modelOf, versionIn, recordsIn, modelIn, held, accepted}
+use Rattle.image_laws.specs.Numbers.{Bytes, Words, Doubles, drop-little, same-bytes, same-itself}
 use Rattle.image_laws.specs.Models as Models
 use Rattle.image_laws.specs.Models.{Machine}
 use Rattle.image_laws.specs.Machines.{machine-in, machine-lent, image-bytes}
@@ -108,3 +109,18 @@ version-record-names-2 b h e =
 
     named : number 4 (drop 2 (versionImage Second ++ recordsImage (modelIn b))) ≡ 2
     named = unfold versionImage recordImage little joined floats lists number in refl
+
+-- ---- W-206, the offices
+
+-- "W-202 writes office 1's bodies under a second body mark": the rest of the record is that of the same body of office 0
+pub mark-alone-differs : (r : Body)
+    → recordImage BODIES (bodyFields r)
+    ≡ little 2 (markOf BODIES (r .office)) ++ drop 2 (recordImage BODIES (bodyFields (record { kind = r .kind; office = office-0; regions = r .regions })))
+unfolding recordImage
+mark-alone-differs r = simp append-assoc (ap (λ (s : List ℕ). little 2 (markOf BODIES (r .office)) ++ s) (sym (drop-little 2 (word marks BODIES) _)))
+
+-- "so old images read as office 0": any bytes, where body i stands under the mark of before
+pub old-mark-is-office-0 : (b : List ℕ) (i : ℕ) → number 2 (behindRecords BODIES i (tableBytes (recordsIn b) BODIES)) ≡ word marks BODIES
+    → body (modelIn b) i .office ≡ office-0
+unfolding modelIn modelOf fieldsAt fieldsIn
+old-mark-is-office-0 b i e = rw e

@@ -10,14 +10,16 @@ use lib.Dec.{eqb, leb, ltb}
 use lib.ListN.{length, getD, drop, length-drop}
 use lib.Ieee.{Float}
 use lib.Seq.{drop-drop}
-use borrow.Author.Tests.{eqb-true, leb-true, ltb-true}
+use borrow.Author.Tests.{eqb-true, ne-eqb, leb-true, ltb-true}
 use Rattle.meaning.specs.Lists.{allBelow}
 use Rattle.meaning_list_laws.specs.Tests.{and-both, allBelow-at}
+use Rattle.memory_layout.specs.Names.{BODIES}
 use Rattle.memory_layout.specs.Layout.{wordStrides, realStrides, word, wordsOf}
+use Rattle.memory_layout.specs.Laid.{office}
 use Rattle.memory_writes.specs.Put.{over, putWords, putReals}
 use Rattle.memory_writes.specs.Over.{length-over, taken-back}
 use Rattle.image_format.specs.Bytes.{number, wordsIn, floatsIn, listsIn}
-use Rattle.image_format.specs.Fields.{listLimitsOf, PRECISION-RECORD, wordCounts, listCounts, listPlacesOf, fieldsIn, behind}
+use Rattle.image_format.specs.Fields.{listLimitsOf, PRECISION-RECORD, wordCounts, listCounts, listPlacesOf, officeIn, fieldsIn, behind}
 use Rattle.image_format.specs.Image.{countIn, behindRecords, tableBytes, fieldsAt}
 use Rattle.image_laws.specs.Numbers.{length-wordsIn, flat}
 use Rattle.image_laws.specs.Sizes.{all-floats, places-many}
@@ -25,7 +27,7 @@ use Rattle.image_record_test.specs.Good.{recordSize}
 use Rattle.image_record_test.specs.Parts.{fixedSize}
 use Rattle.image_record_test.specs.Spelled.{within}
 use Rattle.image_record_test.specs.Tested.{lists-size, limits-many, record-size}
-use Rattle.image_loading.specs.Laid.{listsLaid, recordLaid, recordsLaid, floatsLaid, wordsLaid, realsLaid}
+use Rattle.image_loading.specs.Laid.{listsLaid, frontOf, recordLaid, recordsLaid, floatsLaid, wordsLaid, realsLaid}
 use Rattle.image_loading.specs.Facts.{Lies, Loadable}
 use Rattle.image_loading.specs.Steps.{behindList, listOver, behindLists, listsOver, ListsLie, Stands, Reached, tablesLaid, tableFloatsLaid}
 
@@ -108,6 +110,15 @@ lists-behind (p ∷ places) b at =
 
 -- ---- a record that begins at a place
 
+-- a body's kind and office, and the numbers of all others
+pub body-front : (b : List ℕ) (at : ℕ) → frontOf BODIES (fieldsIn BODIES (drop at b)) ≡ number 4 (drop (at + 2) b) ∷ office (officeIn BODIES (number 2 (drop at b))) ∷ []
+unfolding frontOf fieldsIn wordsIn
+body-front b at = rw (← drop-drop 2 at b)
+
+pub plain-front : (k : ℕ) (b : List ℕ) (at : ℕ) → (k ≡ BODIES → ⊥) → frontOf k (fieldsIn k (drop at b)) ≡ wordsIn (word wordCounts k) (drop (at + 2) b)
+unfolding frontOf fieldsIn
+plain-front k b at h = rw (ne-eqb k BODIES h, ← drop-drop 2 at b)
+
 pub fixed-there : (k : ℕ) (s : List ℕ) → Lies k s → fixedSize k ≤ length s
 fixed-there k s l = let e = record-size k s in omega (arith, l .long)
 
@@ -125,12 +136,16 @@ module _ (k : ℕ) (b : List ℕ) (at : ℕ) (l : Lies k (drop at b)) where
       let long : at + fixedSize k + 4 * length (flat (listsIn (word listCounts k) (drop (fixedSize k) s))) ≤ length b = omega (arith, l .long) in
       lists-lie c (getD listLimitsOf k []) b (at + fixedSize k) (word wordStrides k) (lists-fit k (l .table)) (limits ∙ sym many) (rw (many, ← d) (l .short)) (rw (many, ← d) long)
 
+  lists-read : listsIn (word listCounts k) (drop (fixedSize k) (drop at b)) ≡ fieldsIn k (drop at b) .lists
+  unfolding fieldsIn
+  lists-read = refl
+
   pub record-laid : (w : List ℕ)
-      → listsOver (getD listPlacesOf k []) b (at + fixedSize k) (over 0 (wordsIn (word wordCounts k) (drop (at + 2) b)) w) ≡ recordLaid k (fieldsIn k (drop at b)) w
-  unfolding recordLaid fieldsIn
+      → listsOver (getD listPlacesOf k []) b (at + fixedSize k) (over 0 (frontOf k (fieldsIn k (drop at b))) w) ≡ recordLaid k (fieldsIn k (drop at b)) w
+  unfolding recordLaid
   record-laid w =
-      lists-over (getD listPlacesOf k []) b (at + fixedSize k) (over 0 (wordsIn (word wordCounts k) (drop (at + 2) b)) w)
-      ∙ rw (places-many k (l .table), ← drop-drop (fixedSize k) at b, ← drop-drop 2 at b)
+      lists-over (getD listPlacesOf k []) b (at + fixedSize k) (over 0 (frontOf k (fieldsIn k (drop at b))) w)
+      ∙ rw (places-many k (l .table), ← drop-drop (fixedSize k) at b, lists-read)
 
   pub record-behind : behindLists (getD listPlacesOf k []) b (at + fixedSize k) ≡ at + recordSize k (drop at b)
   record-behind =

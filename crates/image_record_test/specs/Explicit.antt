@@ -7,7 +7,7 @@ use lib.Seq.{drop-drop}
 use lib.Ieee.{binary64, ofBits}
 use Rattle.memory_layout.specs.Layout.{word}
 use Rattle.image_format.specs.Bytes.{number, listsIn}
-use Rattle.image_format.specs.Fields.{Fields, wordCounts, floatCounts, listCounts, fieldsIn}
+use Rattle.image_format.specs.Fields.{Fields, wordCounts, floatCounts, listCounts, officeIn, fieldsIn}
 use Rattle.image_laws.specs.Numbers.{numbersIn, words-in, floats-in}
 use Rattle.image_record_test.specs.Parts.{fixedSize}
 
@@ -25,6 +25,7 @@ numbers-at w (suc n) q s = ap (λ (l : List ℕ). number w (drop q s) ∷ l) (ap
 unfoldable pub fieldsHere : ℕ → List ℕ → Fields
 fieldsHere k s =
     record {
+      office = officeIn k (number 2 s);
       words = numbersAt 4 (word wordCounts k) 2 s;
       floats = map (ofBits binary64) (numbersAt 8 (word floatCounts k) (2 + 4 * word wordCounts k) s);
       lists = listsIn (word listCounts k) (drop (fixedSize k) s);

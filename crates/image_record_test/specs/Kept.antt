@@ -2,7 +2,7 @@
 use Prim.Native.Nat.{ℕ, zero, suc, _*_, _<_}
 use native.Mathlib.Omega.{arith}
 use mathlib.Core.Path.{_≡_, refl, ap, _∙_}
-use mathlib.Core.Bool.{Bool, true, false, not, cond, _&&_, false≢true}
+use mathlib.Core.Bool.{Bool, true, false, not, cond, _&&_, _||_, false≢true}
 use mathlib.Core.List.{[], _∷_}
 use mathlib.Core.Option.{none, some}
 use lib.Dec.{T, eqb, leb}
@@ -12,14 +12,28 @@ use lib.Ieee.Bits.{toBits-ofBits}
 use borrow.Author.Tests.{eq-eqb, ne-eqb, lt-leb}
 use Rattle.interval_arithmetic.specs.Ops.{zeroF}
 use Rattle.geom_lines_planes.specs.declared.tolerance.Tolerance.the-variants.{Own, Session}
-use Rattle.meaning.specs.Model.{positive, negative}
+use Rattle.meaning.specs.Model.{positive, negative, office-0, office-1}
 use Rattle.meaning.specs.Edits.{toleranceOk}
 use Rattle.meaning_list_laws.specs.Tests.{and-both, and-true, and-false}
+use Rattle.memory_layout.specs.Names.{BODIES}
+use Rattle.memory_layout.specs.Layout.{word}
 use Rattle.memory_layout.specs.Decode.{kindOf, toleranceOf}
 use Rattle.memory_layout.specs.Laid.{bit, sense, kind, maybe, tag, own}
 use Rattle.image_format.specs.Bytes.{sameBytes}
+use Rattle.image_format.specs.Fields.{marks, SECOND-BODY-MARK, markOf, officeIn}
 use Rattle.image_laws.specs.Starts.{eqb-sym}
-use Rattle.image_record_test.specs.Parts.{optionalGood, bitsGood, toleranceGood}
+use Rattle.image_record_test.specs.Parts.{markGood, optionalGood, bitsGood, toleranceGood}
+
+-- ---- marks
+
+-- a body's mark is written again for the office that it tells
+pub mark-kept : (n : ℕ) → eqb n (markOf BODIES (officeIn BODIES n)) ≡ markGood BODIES n
+unfolding markGood
+mark-kept n = go (eqb n SECOND-BODY-MARK) refl
+  where
+    go : (b : Bool) → eqb n SECOND-BODY-MARK ≡ b → eqb n (markOf BODIES (cond b office-1 office-0)) ≡ (b || eqb n (word marks BODIES))
+    go true e = e
+    go false e = refl
 
 -- ---- tags
 

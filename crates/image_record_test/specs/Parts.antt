@@ -7,9 +7,10 @@ use lib.ListN.{length, getD, drop}
 use lib.Ieee.{binary64, toBits, ofBits}
 use Rattle.geom_lines_planes.specs.declared.tolerance.Tolerance.the-variants.{Own}
 use Rattle.meaning.specs.Edits.{toleranceOk}
+use Rattle.memory_layout.specs.Names.{BODIES}
 use Rattle.memory_layout.specs.Layout.{word}
 use Rattle.image_format.specs.Bytes.{number}
-use Rattle.image_format.specs.Fields.{marks, wordCounts, floatCounts}
+use Rattle.image_format.specs.Fields.{marks, SECOND-BODY-MARK, wordCounts, floatCounts}
 
 -- how many bytes the mark, the numbers and the floats take
 abbrev pub fixedSize : ℕ → ℕ
@@ -75,8 +76,12 @@ fixedTests =
 unfoldable pub fieldsGood : ℕ → List ℕ → Bool
 fieldsGood k p = getD fixedTests k (λ _. true) p
 
+-- the mark of a record of table k: a body has two
+unfoldable pub markGood : ℕ → ℕ → Bool
+markGood k n = (eqb k BODIES && eqb n SECOND-BODY-MARK) || eqb n (word marks k)
+
 unfoldable pub fixedGood : ℕ → List ℕ → Bool
-fixedGood k p = eqb (number 2 p) (word marks k) && fieldsGood k p
+fixedGood k p = markGood k (number 2 p) && fieldsGood k p
 
 -- ---- the lists
 

@@ -16,14 +16,14 @@ use Rattle.memory_layout.specs.Layout.{word}
 use Rattle.memory_layout.specs.Decode.{senseOf, toleranceOf, carrierOf}
 use Rattle.memory_layout.specs.Laid.{sense, maybe, tag, carrierTag, carrierReals}
 use Rattle.image_format.specs.Bytes.{number, listsIn, sameBytes}
-use Rattle.image_format.specs.Fields.{listLimitsOf, Fields, wordCounts, floatCounts, edgeIn, vertexIn}
+use Rattle.image_format.specs.Fields.{listLimitsOf, Fields, markOf, wordCounts, floatCounts, edgeIn, vertexIn}
 use Rattle.image_laws.specs.Numbers.{Bytes, patterns, number-below, below-drop}
 use Rattle.image_laws.specs.Records.{Fitting}
 use Rattle.image_laws.specs.Machines.{Whole, whole-in, body-fits, region-fits, shell-fits, face-fits, loop-fits, fin-fits, edge-fits, vertex-fits, carrier-fits}
 use Rattle.image_laws.specs.Starts.{eqb-sym}
 use Rattle.image_record_test.specs.Good.{spelled, holds}
-use Rattle.image_record_test.specs.Parts.{optionalGood, markedGood, bitsGood, carrierBits, vertexGood, carrierGood, fieldsGood}
-use Rattle.image_record_test.specs.Kept.{kind-kept, bit-kept, sense-kept, tag-kept, maybe-kept, zero-bits, tolerance-kept}
+use Rattle.image_record_test.specs.Parts.{markGood, optionalGood, markedGood, bitsGood, carrierBits, vertexGood, carrierGood, fieldsGood}
+use Rattle.image_record_test.specs.Kept.{mark-kept, kind-kept, bit-kept, sense-kept, tag-kept, maybe-kept, zero-bits, tolerance-kept}
 use Rattle.image_record_test.specs.Explicit.{numbersAt, fieldsHere, fields-here}
 
 -- each list is within its limit
@@ -51,6 +51,7 @@ toleranceHeld k f = getD tolerances k (λ _. true) f
 -- the fields f, read from the bytes s, and the fields g that are written for them
 pub record Spelled (k : ℕ) (s : List ℕ) (f g : Fields) : Type 0 where
   pub fits : Fitting k g
+  pub marked : eqb (number 2 s) (markOf k (g .office)) ≡ markGood k (number 2 s)
   pub lists-same : g .lists ≡ f .lists
   pub held : holds k f ≡ (within (getD listLimitsOf k []) (f .lists) && toleranceHeld k f)
   pub kept : ((sameBytes (g .words) (f .words) && sameBytes (patterns (g .floats)) (numbersAt 8 (word floatCounts k) (2 + 4 * word wordCounts k) s)) && toleranceHeld k f)
@@ -128,56 +129,62 @@ module _ (s : List ℕ) (b : Bytes s) where
   body-spelled =
       record {
         fits = body-fits (f 0) (here 0);
+        marked = mark-kept (number 2 s);
         lists-same = refl;
         held = sym (rw (and-true, and-true));
         kept = rw (kind-kept (n4 2), and-true, and-true, and-true);
       }
 
   region-spelled : Spelled 1 s (f 1) (spelled 1 (f 1))
-  unfolding spelled fieldsHere numbersAt holds within toleranceHeld fieldsGood sameBytes listsIn
+  unfolding spelled markGood fieldsHere numbersAt holds within toleranceHeld fieldsGood sameBytes listsIn
   region-spelled =
       record {
         fits = region-fits (f 1) (here 1);
+        marked = refl;
         lists-same = refl;
         held = sym (rw (and-true, and-true));
         kept = rw (eq-eqb (n4 2) (n4 2) refl, bit-kept (n4 6), and-true, and-true, and-true);
       }
 
   shell-spelled : Spelled 2 s (f 2) (spelled 2 (f 2))
-  unfolding spelled fieldsHere numbersAt holds within toleranceHeld fieldsGood sameBytes listsIn
+  unfolding spelled markGood fieldsHere numbersAt holds within toleranceHeld fieldsGood sameBytes listsIn
   shell-spelled =
       record {
         fits = shell-fits (f 2) (here 2);
+        marked = refl;
         lists-same = refl;
         held = simp (and-true, and-assoc);
         kept = rw (eq-eqb (n4 2) (n4 2) refl);
       }
 
   loop-spelled : Spelled 4 s (f 4) (spelled 4 (f 4))
-  unfolding spelled fieldsHere numbersAt holds within toleranceHeld fieldsGood sameBytes listsIn
+  unfolding spelled markGood fieldsHere numbersAt holds within toleranceHeld fieldsGood sameBytes listsIn
   loop-spelled =
       record {
         fits = loop-fits (f 4) (here 4);
+        marked = refl;
         lists-same = refl;
         held = sym (rw (and-true, and-true));
         kept = rw (eq-eqb (n4 2) (n4 2) refl);
       }
 
   fin-spelled : Spelled 5 s (f 5) (spelled 5 (f 5))
-  unfolding spelled fieldsHere numbersAt holds within toleranceHeld fieldsGood sameBytes listsIn
+  unfolding spelled markGood fieldsHere numbersAt holds within toleranceHeld fieldsGood sameBytes listsIn
   fin-spelled =
       record {
         fits = fin-fits (f 5) (here 5);
+        marked = refl;
         lists-same = refl;
         held = refl;
         kept = rw (eq-eqb (n4 2) (n4 2) refl, eq-eqb (n4 6) (n4 6) refl, sense-kept (n4 10), bit-kept (n4 14), and-true, and-true, and-true);
       }
 
   face-spelled : Spelled 3 s (f 3) (spelled 3 (f 3))
-  unfolding spelled fieldsHere numbersAt holds within toleranceHeld fieldsGood listsIn markedGood
+  unfolding spelled markGood fieldsHere numbersAt holds within toleranceHeld fieldsGood listsIn markedGood
   face-spelled =
       record {
         fits = face-fits (f 3) (here 3);
+        marked = refl;
         lists-same = refl;
         held = sym (rw (and-true, and-true));
         kept = rw (three-kept (n4 2) (n4 6) (n4 10) (n4 14) (n4 18) (n4 22) (sense (senseOf (n4 26))) (n4 26), sense-kept (n4 26), same-none, and-true, and-true);
@@ -190,20 +197,22 @@ module _ (s : List ℕ) (b : Bytes s) where
   n8 q = number 8 (drop q s)
 
   edge-spelled : Spelled 6 s (f 6) (spelled 6 (f 6))
-  unfolding spelled fieldsHere numbersAt holds within toleranceHeld fieldsGood listsIn markedGood sameBytes
+  unfolding spelled markGood fieldsHere numbersAt holds within toleranceHeld fieldsGood listsIn markedGood sameBytes
   edge-spelled =
       record {
         fits = edge-fits (f 6) (here 6);
+        marked = refl;
         lists-same = refl;
         held = simp and-true;
         kept = rw (three-kept (n4 2) (n4 6) (n4 10) (n4 14) (n4 18) (n4 22) (tag (toleranceOf (n4 26) (ofBits binary64 (n8 30)))) (n4 26), tag-kept (n4 26) (ofBits binary64 (n8 30)), ← tolerance-kept (n4 26) (n8 30) (bits-below 30)) (simp (and-true, and-assoc));
       }
 
   vertex-spelled : Spelled 7 s (f 7) (spelled 7 (f 7))
-  unfolding spelled fieldsHere numbersAt holds within toleranceHeld fieldsGood listsIn sameBytes vertexGood bitsGood
+  unfolding spelled markGood fieldsHere numbersAt holds within toleranceHeld fieldsGood listsIn sameBytes vertexGood bitsGood
   vertex-spelled =
       record {
         fits = vertex-fits (f 7) (here 7);
+        marked = refl;
         lists-same = refl;
         held = refl;
         kept = rw (tag-kept (n4 2) (ofBits binary64 (n8 30)), ← tolerance-kept (n4 2) (n8 30) (bits-below 30)) (simp (and-true, and-assoc));
@@ -213,20 +222,22 @@ module _ (s : List ℕ) (b : Bytes s) where
   six = sixOf (n8 6) (n8 14) (n8 22) (n8 30) (n8 38) (n8 46)
 
   curve-spelled : Spelled 8 s (f 8) (spelled 8 (f 8))
-  unfolding spelled fieldsHere numbersAt holds within toleranceHeld fieldsGood listsIn carrierGood
+  unfolding spelled markGood fieldsHere numbersAt holds within toleranceHeld fieldsGood listsIn carrierGood
   curve-spelled =
       record {
-        fits = carrier-fits (f 8) (here 8) 8 refl refl refl;
+        fits = carrier-fits (f 8) (here 8) 8 (omega arith) refl refl refl;
+        marked = refl;
         lists-same = refl;
         held = refl;
         kept = rw and-true (carrier-kept (n4 2) (n8 6) (n8 14) (n8 22) (n8 30) (n8 38) (n8 46));
       }
 
   surface-spelled : Spelled 9 s (f 9) (spelled 9 (f 9))
-  unfolding spelled fieldsHere numbersAt holds within toleranceHeld fieldsGood listsIn carrierGood
+  unfolding spelled markGood fieldsHere numbersAt holds within toleranceHeld fieldsGood listsIn carrierGood
   surface-spelled =
       record {
-        fits = carrier-fits (f 9) (here 9) 9 refl refl refl;
+        fits = carrier-fits (f 9) (here 9) 9 (omega arith) refl refl refl;
+        marked = refl;
         lists-same = refl;
         held = refl;
         kept = rw and-true (carrier-kept (n4 2) (n8 6) (n8 14) (n8 22) (n8 30) (n8 38) (n8 46));

@@ -1,25 +1,25 @@
 -- A record is good just where the code's tests pass, and ends where its lists do. Assumes nothing.
-use Prim.Native.Nat.{ℕ, suc, _+_, _-_, _*_, _^_, _≤_, _<_}
+use Prim.Native.Nat.{ℕ, suc, _+_, _-_, _*_, _≤_, _<_}
 use native.Mathlib.Nat.{add-assoc}
 use native.Mathlib.Omega.{arith}
 use mathlib.Core.Path.{_≡_, refl, sym, ap, ap₂, _∙_}
 use mathlib.Core.Bool.{Bool, true, false, cond, _&&_, and-comm}
 use mathlib.Core.List.{List, [], _∷_, _++_}
-use lib.Dec.{eqb, leb, ltb}
+use lib.Dec.{eqb, leb}
 use lib.ListN.{length, drop, getD, length-drop, length-append}
 use lib.Ieee.{Float}
 use lib.Seq.{drop-drop}
-use borrow.Author.Tests.{ne-eqb, leb-true, le-leb, ltb-true, eqb-true}
+use borrow.Author.Tests.{ne-eqb, leb-true, le-leb, eqb-true}
 use Rattle.meaning.specs.Lists.{allBelow}
 use Rattle.meaning_list_laws.specs.Tests.{and-both, and-assoc, and-true, and-false, both-ways, allBelow-at}
 use Rattle.memory_layout.specs.Layout.{word}
 use Rattle.image_format.specs.Bytes.{little, words, floats, lists, number, wordsIn, floatsIn, listsIn, sameBytes}
-use Rattle.image_format.specs.Fields.{listLimitsOf, Fields, marks, wordCounts, floatCounts, listCounts, recordImage, fieldsIn}
+use Rattle.image_format.specs.Fields.{listLimitsOf, Fields, markOf, wordCounts, floatCounts, listCounts, recordImage, officeIn, fieldsIn}
 use Rattle.image_laws.specs.Numbers.{Bytes, below-drop, patterns, words-in, length-little, length-words, length-wordsIn, length-floats, length-floatsIn, length-lists, flat, same-itself}
 use Rattle.image_laws.specs.Machines.{words-below}
 use Rattle.image_laws.specs.Starts.{exchange, starts, starts-both, starts-little, starts-words, starts-floats}
 use Rattle.image_record_test.specs.Good.{spelled, recordGood, recordSize, recordEnd}
-use Rattle.image_record_test.specs.Parts.{fixedSize, fixedGood, listEnd, listsEnd}
+use Rattle.image_record_test.specs.Parts.{fixedSize, markGood, fixedGood, listEnd, listsEnd}
 use Rattle.image_record_test.specs.Explicit.{numbersAt, numbers-at, fieldsHere, fields-here}
 use Rattle.image_record_test.specs.Spelled.{within, toleranceHeld, all-spelled}
 
@@ -103,18 +103,14 @@ module _ (k : ℕ) (h : k < 10) where
   limits-many =
       eqb-true (length (getD listLimitsOf k [])) (word listCounts k) (allBelow-at (λ j. eqb (length (getD listLimitsOf j [])) (word listCounts j)) 10 k refl h)
 
-  mark-small : word marks k < 256 ^ 2
-  unfolding allBelow
-  mark-small = ltb-true (word marks k) (256 ^ 2) (allBelow-at (λ j. ltb (word marks j) (256 ^ 2)) 10 k refl h)
-
 -- the image of fields, part by part
 pub starts-record : (k : ℕ) (g : Fields) (s : List ℕ) → length (g .words) ≡ word wordCounts k → length (g .floats) ≡ word floatCounts k
     → starts (recordImage k g) s
-    ≡ (starts (little 2 (word marks k)) s && starts (words (g .words)) (drop 2 s) && starts (floats (g .floats)) (drop (2 + 4 * word wordCounts k) s) && starts (lists (g .lists)) (drop (fixedSize k) s))
+    ≡ (starts (little 2 (markOf k (g .office))) s && starts (words (g .words)) (drop 2 s) && starts (floats (g .floats)) (drop (2 + 4 * word wordCounts k) s) && starts (lists (g .lists)) (drop (fixedSize k) s))
 unfolding recordImage
 starts-record k g s w f =
-    let m : List ℕ = little 2 (word marks k) in
-    let a : length m ≡ 2 = length-little 2 (word marks k) in
+    let m : List ℕ = little 2 (markOf k (g .office)) in
+    let a : length m ≡ 2 = length-little 2 (markOf k (g .office)) in
     let b : length (words (g .words)) ≡ 4 * word wordCounts k = length-words (g .words) ∙ ap (λ (n : ℕ). 4 * n) w in
     let c : length (floats (g .floats)) ≡ 8 * word floatCounts k = length-floats (g .floats) ∙ ap (λ (n : ℕ). 8 * n) f in
     let mw : length (m ++ words (g .words)) ≡ 2 + 4 * word wordCounts k = length-append m (words (g .words)) ∙ ap₂ _+_ a b in
@@ -181,7 +177,8 @@ module _ (k : ℕ) (h : k < 10) (s : List ℕ) (b : Bytes s) where
         fields-here k s,
         p .held,
         starts-record k g s (p .fits .words) (p .fits .floats),
-        starts-little 2 (word marks k) s (mark-small k h) b,
+        starts-little 2 (markOf k (g .office)) s (p .fits .mark .narrow) b,
+        p .marked,
         its-words,
         its-floats,
         ← its-lists,
@@ -192,7 +189,7 @@ module _ (k : ℕ) (h : k < 10) (s : List ℕ) (b : Bytes s) where
       (within (getD listLimitsOf k []) (fieldsHere k s .lists))
       (toleranceHeld k (fieldsHere k s))
       (leb 2 (length s))
-      (eqb (number 2 s) (word marks k))
+      (markGood k (number 2 s))
       (leb (4 * word wordCounts k) (length s - 2))
       (sameBytes (g .words) (fieldsHere k s .words))
       (leb (8 * word floatCounts k) (length s - (2 + 4 * word wordCounts k)))
@@ -206,14 +203,14 @@ unfolding recordSize recordImage fieldsIn
 record-size k s =
     let a : ℕ = word wordCounts k in
     let c : ℕ = word floatCounts k in
-    let m : List ℕ = little 2 (word marks k) in
+    let m : List ℕ = little 2 (markOf k (officeIn k (number 2 s))) in
     let w : List ℕ = wordsIn a (drop 2 s) in
     let f : List Float = floatsIn c (drop (2 + 4 * a) s) in
     let l : List (List ℕ) = listsIn (word listCounts k) (drop (fixedSize k) s) in
     let p : length (words w) ≡ 4 * a = length-words w ∙ ap (λ (n : ℕ). 4 * n) (length-wordsIn a (drop 2 s)) in
     let q : length (floats f) ≡ 8 * c = length-floats f ∙ ap (λ (n : ℕ). 8 * n) (length-floatsIn c (drop (2 + 4 * a) s)) in
     length-append (m ++ words w ++ floats f) (lists l)
-    ∙ ap₂ _+_ (length-append (m ++ words w) (floats f) ∙ ap₂ _+_ (length-append m (words w) ∙ ap₂ _+_ (length-little 2 (word marks k)) p) q) (length-lists l)
+    ∙ ap₂ _+_ (length-append (m ++ words w) (floats f) ∙ ap₂ _+_ (length-append m (words w) ∙ ap₂ _+_ (length-little 2 (markOf k (officeIn k (number 2 s)))) p) q) (length-lists l)
 
 pub record-end : (k : ℕ) → k < 10 → (b : List ℕ) → Bytes b → (at : ℕ) → 0 < at → at ≤ length b
     → recordEnd k b at

@@ -7,9 +7,10 @@ use lib.Dec.{eqb}
 use lib.ListN.{length, getD, take, replicate}
 use lib.Ieee.{Float}
 use Rattle.interval_arithmetic.specs.Ops.{zeroF}
-use Rattle.memory_layout.specs.Names.{FACES, EDGES, BODY-REGIONS, REGION-SHELLS, SHELL-FACES, FACE-LOOPS, LOOP-FINS, EDGE-FINS, AT-FACE-FRONT, AT-FACE-BACK, AT-FACE-SURFACE, AT-FACE-SENSE, AT-EDGE-TOLERANCE, AT-VERTEX-TOLERANCE, AT-CARRIER-TAG}
+use Rattle.meaning.specs.Model.{Office, office-0}
+use Rattle.memory_layout.specs.Names.{BODIES, FACES, EDGES, BODY-REGIONS, REGION-SHELLS, SHELL-FACES, FACE-LOOPS, LOOP-FINS, EDGE-FINS, AT-BODY-OFFICE, AT-FACE-FRONT, AT-FACE-BACK, AT-FACE-SURFACE, AT-FACE-SENSE, AT-EDGE-TOLERANCE, AT-VERTEX-TOLERANCE, AT-CARRIER-TAG}
 use Rattle.memory_layout.specs.Layout.{wordStrides, word}
-use Rattle.memory_layout.specs.Decode.{listAt, bodyOf, regionOf, shellOf, faceOf, loopOf, finOf, edgeOf, vertexOf, carrierOf}
+use Rattle.memory_layout.specs.Decode.{listAt, officeOf, bodyOf, regionOf, shellOf, faceOf, loopOf, finOf, edgeOf, vertexOf, carrierOf}
 use Rattle.memory_layout.specs.Readable.{recordOk}
 use Rattle.memory_layout.specs.Fit.{Whole, Held}
 use Rattle.image_format.specs.Bytes.{lists}
@@ -32,7 +33,7 @@ fieldMakers =
     ∷ []
 
 abbrev noFields : Fields
-noFields = record { words = []; floats = []; lists = [] }
+noFields = record { office = office-0; words = []; floats = []; lists = [] }
 
 unfoldable pub fieldsOf : ℕ → List ℕ → List Float → Fields
 fieldsOf k w x = getD fieldMakers k (λ _ _. noFields) w x
@@ -43,6 +44,10 @@ pub record Kept (k : ℕ) (w : List ℕ) (x : List Float) : Type 0 where
   pub ok : recordOk k w x ≡ true
 
 -- ---- the same, as the code builds it. No reader of a public promise needs what follows.
+
+-- the office whose mark a record stands under
+unfoldable pub officeHere : ℕ → List ℕ → Office
+officeHere k w = cond (eqb k BODIES) (officeOf (word w AT-BODY-OFFICE)) office-0
 
 -- the id at a place, 0 where the tag before it says none
 unfoldable pub idBehind : List ℕ → ℕ → ℕ

@@ -26,10 +26,10 @@ use Rattle.memory_layout.specs.Laws.{list-room, short-list, limit-le, held-leng
 use Rattle.memory_writes.specs.Put.{over}
 use Rattle.memory_writes.specs.Over.{over-behind}
 use Rattle.image_format.specs.Bytes.{little, words, floats, lists}
-use Rattle.image_format.specs.Fields.{marks, wordCounts, floatCounts, listCounts, recordImage}
+use Rattle.image_format.specs.Fields.{markOf, wordCounts, floatCounts, listCounts, recordImage}
 use Rattle.image_laws.specs.Numbers.{length-little, length-words, length-floats}
 use Rattle.image_laws.specs.Sizes.{numbers-fit, all-floats}
-use Rattle.image_records.specs.Kept.{fieldsOf, Kept, idBehind, threeIds, headOf, tagPlaces, quietTags, quietFloats, unsaid, tailOf, placesOf, listsOf, recordLength, firstLists, Listed}
+use Rattle.image_records.specs.Kept.{fieldsOf, Kept, officeHere, idBehind, threeIds, headOf, tagPlaces, quietTags, quietFloats, unsaid, tailOf, placesOf, listsOf, recordLength, firstLists, Listed}
 
 -- ---- tags that are known stand as they are
 
@@ -108,6 +108,7 @@ carrier-tag (suc (suc (suc n))) x h = absurd (omega arith)
 -- ---- the fields of a record that passes its test
 
 pub record Parts (k : ℕ) (w : List ℕ) (x : List Float) : Type 0 where
+  pub mark : fieldsOf k w x .office ≡ officeHere k w
   pub head : fieldsOf k w x .words ≡ headOf k w
   pub tail : fieldsOf k w x .floats ≡ tailOf k w x
   pub lists : fieldsOf k w x .lists ≡ map (listAt w) (take (word listCounts k) (placesOf k))
@@ -133,55 +134,60 @@ three-kept w n e f =
 
 module _ (w : List ℕ) (x : List Float) where
   body-kept : Kept 0 w x → Parts 0 w x
-  unfolding fieldsOf headOf tailOf unsaid recordOk entries
+  unfolding fieldsOf officeHere headOf tailOf unsaid recordOk entries
   body-kept p =
       let l = p .whole .words in
-      let a = and-both (leb (word w 0) 4) (leb (word w 1) 16) (p .ok) in
+      let a = and-both (leb (word w 0) 4 && leb (word w 1) 1) (leb (word w 2) 16) (p .ok) in
+      let b = and-both (leb (word w 0) 4) (leb (word w 1) 1) (a .0) in
       record {
-        head = ap (λ (n : ℕ). n ∷ []) (kind-known (word w 0) (leb-true (word w 0) 4 (a .0))) ∙ written-out 0 w 1 (omega arith);
+        mark = refl;
+        head = ap (λ (n : ℕ). n ∷ []) (kind-known (word w 0) (leb-true (word w 0) 4 (b .0))) ∙ written-out 0 w 1 (omega arith);
         tail = no-floats (eqb (word w 0) 0) x;
         lists = refl;
       }
 
   region-kept : Kept 1 w x → Parts 1 w x
-  unfolding fieldsOf headOf tailOf unsaid recordOk entries
+  unfolding fieldsOf officeHere headOf tailOf unsaid recordOk entries
   region-kept p =
       let l = p .whole .words in
       let a = and-both (leb (word w 1) 1) (leb (word w 2) 16) (p .ok) in
       record {
+        mark = refl;
         head = ap (λ (n : ℕ). word w 0 ∷ n ∷ []) (bit-known (word w 1) (leb-true (word w 1) 1 (a .0))) ∙ written-out 0 w 2 (omega arith);
         tail = no-floats (eqb (word w 0) 0) x;
         lists = refl;
       }
 
   shell-kept : Kept 2 w x → Parts 2 w x
-  unfolding fieldsOf headOf tailOf unsaid entries
+  unfolding fieldsOf officeHere headOf tailOf unsaid entries
   shell-kept p =
       let l = p .whole .words in
-      record { head = written-out 0 w 1 (omega arith); tail = no-floats (eqb (word w 0) 0) x; lists = refl }
+      record { mark = refl; head = written-out 0 w 1 (omega arith); tail = no-floats (eqb (word w 0) 0) x; lists = refl }
 
   face-kept : Kept 3 w x → Parts 3 w x
-  unfolding fieldsOf headOf tailOf unsaid recordOk
+  unfolding fieldsOf officeHere headOf tailOf unsaid recordOk
   face-kept p =
       let a = and-both (three w) (leb (word w 7) 16) (p .ok) in
       record {
+        mark = refl;
         head = three-kept w _ (a .0) (sense-known (word w 6) (three-known w (a .0) .3));
         tail = no-floats (eqb (word w 0) 0) x;
         lists = refl;
       }
 
   loop-kept : Kept 4 w x → Parts 4 w x
-  unfolding fieldsOf headOf tailOf unsaid entries
+  unfolding fieldsOf officeHere headOf tailOf unsaid entries
   loop-kept p =
       let l = p .whole .words in
-      record { head = written-out 0 w 1 (omega arith); tail = no-floats (eqb (word w 0) 0) x; lists = refl }
+      record { mark = refl; head = written-out 0 w 1 (omega arith); tail = no-floats (eqb (word w 0) 0) x; lists = refl }
 
   fin-kept : Kept 5 w x → Parts 5 w x
-  unfolding fieldsOf headOf tailOf unsaid recordOk entries
+  unfolding fieldsOf officeHere headOf tailOf unsaid recordOk entries
   fin-kept p =
       let l = p .whole .words in
       let a = and-both (leb (word w 2) 1) (leb (word w 3) 1) (p .ok) in
       record {
+        mark = refl;
         head = ap₂ (λ (m n : ℕ). word w 0 ∷ word w 1 ∷ m ∷ n ∷ []) (sense-known (word w 2) (leb-true (word w 2) 1 (a .0))) (bit-known (word w 3) (leb-true (word w 3) 1 (a .1)))
             ∙ written-out 0 w 4 (omega arith);
         tail = no-floats (eqb (word w 0) 0) x;
@@ -189,46 +195,50 @@ module _ (w : List ℕ) (x : List Float) where
       }
 
   edge-kept : Kept 6 w x → Parts 6 w x
-  unfolding fieldsOf headOf tailOf unsaid recordOk
+  unfolding fieldsOf officeHere headOf tailOf unsaid recordOk
   edge-kept p =
       let m = p .whole .reals in
       let a = and-both (three w && leb (word w 7) 8) (ownOk (word w 6) (real x 0)) (p .ok) in
       let b = and-both (three w) (leb (word w 7) 8) (a .0) in
       let h = three-known w (b .0) .3 in
       record {
+        mark = refl;
         head = three-kept w _ (b .0) (tag-known (word w 6) (real x 0) h);
         tail = one-float (word w 6) x h m;
         lists = refl;
       }
 
   vertex-kept : Kept 7 w x → Parts 7 w x
-  unfolding fieldsOf headOf tailOf unsaid recordOk entries
+  unfolding fieldsOf officeHere headOf tailOf unsaid recordOk entries
   vertex-kept p =
       let l = p .whole .words in
       let h = leb-true (word w 0) 1 (and-both (leb (word w 0) 1) (ownOk (word w 0) (real x 3)) (p .ok) .0) in
       record {
+        mark = refl;
         head = ap (λ (n : ℕ). n ∷ []) (tag-known (word w 0) (real x 3) h) ∙ written-out 0 w 1 (omega arith);
         tail = four-floats (word w 0) x h (p .whole .reals);
         lists = refl;
       }
 
   curve-kept : Kept 8 w x → Parts 8 w x
-  unfolding fieldsOf headOf tailOf unsaid recordOk entries
+  unfolding fieldsOf officeHere headOf tailOf unsaid recordOk entries
   curve-kept p =
       let l = p .whole .words in
       let h = leb-true (word w 0) 2 (p .ok) in
       record {
+        mark = refl;
         head = carrier-tag (word w 0) x h ∙ written-out 0 w 1 (omega arith);
         tail = carrier-floats (word w 0) x h (p .whole .reals);
         lists = refl;
       }
 
   surface-kept : Kept 9 w x → Parts 9 w x
-  unfolding fieldsOf headOf tailOf unsaid recordOk entries
+  unfolding fieldsOf officeHere headOf tailOf unsaid recordOk entries
   surface-kept p =
       let l = p .whole .words in
       let h = leb-true (word w 0) 2 (p .ok) in
       record {
+        mark = refl;
         head = carrier-tag (word w 0) x h ∙ written-out 0 w 1 (omega arith);
         tail = carrier-floats (word w 0) x h (p .whole .reals);
         lists = refl;
@@ -498,9 +508,9 @@ tail-parts k w x q h e f =
 -- ---- the record
 
 pub image-kept : (k : ℕ) (w : List ℕ) (x : List Float) → Kept k w x
-    → recordImage k (fieldsOf k w x) ≡ little 2 (word marks k) ++ words (headOf k w) ++ floats (tailOf k w x) ++ listsOf k w (word listCounts k)
+    → recordImage k (fieldsOf k w x) ≡ little 2 (markOf k (officeHere k w)) ++ words (headOf k w) ++ floats (tailOf k w x) ++ listsOf k w (word listCounts k)
 unfolding recordImage listsOf
-image-kept k w x p = let f = fields-kept w x k p in rw (f .head, f .tail, f .lists)
+image-kept k w x p = let f = fields-kept w x k p in rw (f .mark, f .head, f .tail, f .lists)
 
 pub record-small : (k : ℕ) (w : List ℕ) → Listed k w → recordLength k w ≤ 12378
 unfolding recordLength
@@ -517,28 +527,28 @@ module _ (k : ℕ) (w : List ℕ) (x : List Float) (p : Kept k w x) where
   -- a mark, then the rest
   pub parts-long : length (recordImage k (fieldsOf k w x)) ≡ 2 + length (words (headOf k w)) + length (floats (tailOf k w x)) + length (listsOf k w (word listCounts k))
   parts-long =
-      let m : List ℕ = little 2 (word marks k) in
+      let m : List ℕ = little 2 (markOf k (officeHere k w)) in
       let h : List ℕ = words (headOf k w) in
       let t : List ℕ = floats (tailOf k w x) in
       let a = ap length (image-kept k w x p) in
       let b = length-append (m ++ h ++ t) (listsOf k w (word listCounts k)) in
       let d = length-append (m ++ h) t in
       let e = length-append m h in
-      let f = length-little 2 (word marks k) in
+      let f = length-little 2 (markOf k (officeHere k w)) in
       omega arith
 
   -- the floats begin at q, the lists at s
   pub record-written : (at q s : ℕ) (b : List ℕ) → q ≡ at + 2 + length (words (headOf k w)) → s ≡ q + length (floats (tailOf k w x))
       → at + length (recordImage k (fieldsOf k w x)) ≤ length b
-      → over s (listsOf k w (word listCounts k)) (over q (floats (tailOf k w x)) (over (at + 2) (words (headOf k w)) (over at (little 2 (word marks k)) b)))
+      → over s (listsOf k w (word listCounts k)) (over q (floats (tailOf k w x)) (over (at + 2) (words (headOf k w)) (over at (little 2 (markOf k (officeHere k w))) b)))
       ≡ over at (recordImage k (fieldsOf k w x)) b
   record-written at q s b i j room =
       let l = parts-long in
-      let m : List ℕ = little 2 (word marks k) in
+      let m : List ℕ = little 2 (markOf k (officeHere k w)) in
       let h : List ℕ = words (headOf k w) in
       let t : List ℕ = floats (tailOf k w x) in
       let r : List ℕ = listsOf k w (word listCounts k) in
-      let f = length-little 2 (word marks k) in
+      let f = length-little 2 (markOf k (officeHere k w)) in
       let d = length-append m h in
       let e = length-append (m ++ h) t in
       let u : over (at + 2) h (over at m b) ≡ over at (m ++ h) b = over-turn at (at + 2) m h (over at m b) b (omega arith) refl (omega arith) in

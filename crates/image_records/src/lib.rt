@@ -2,6 +2,7 @@
 use image_bytes::put_floats;
 use image_bytes::put_mark;
 use image_bytes::put_words;
+use memory_layout::names::AT_BODY_OFFICE;
 use memory_layout::names::AT_CARRIER_TAG;
 use memory_layout::names::AT_EDGE_TOLERANCE;
 use memory_layout::names::AT_FACE_BACK;
@@ -9,6 +10,7 @@ use memory_layout::names::AT_FACE_FRONT;
 use memory_layout::names::AT_FACE_SENSE;
 use memory_layout::names::AT_FACE_SURFACE;
 use memory_layout::names::AT_VERTEX_TOLERANCE;
+use memory_layout::names::BODIES;
 use memory_layout::names::BODY_REGIONS;
 use memory_layout::names::EDGE_FINS;
 use memory_layout::names::EDGES;
@@ -21,12 +23,14 @@ use memory_lists::list_place;
 ghost use mathlib.Core.Path.{_≡_};
 ghost use Prim.Native.Nat.{suc, _+_, _<_, _≤_};
 ghost use lib.ListN.{length, take, drop};
+ghost use Rattle.memory_layout.specs.Names.{BODIES, AT-BODY-OFFICE};
 ghost use Rattle.memory_layout.specs.Layout.{word};
+ghost use Rattle.memory_layout.specs.Decode.{officeOf};
 ghost use Rattle.memory_layout.specs.Fit.{Held};
 ghost use Rattle.memory_writes.specs.Put.{over};
 ghost use Rattle.image_format.specs.Bytes.{words, floats};
-ghost use Rattle.image_format.specs.Fields.{marks, wordCounts, floatCounts, listCounts, recordImage};
-ghost use Rattle.image_records.specs.Kept.{fieldsOf, Kept, idBehind, threeIds, headOf, unsaid, tailOf, placesOf, listsOf, recordLength, Listed};
+ghost use Rattle.image_format.specs.Fields.{markOf, wordCounts, floatCounts, listCounts, recordImage};
+ghost use Rattle.image_records.specs.Kept.{fieldsOf, Kept, officeHere, idBehind, threeIds, headOf, unsaid, tailOf, placesOf, listsOf, recordLength, Listed};
 
 // By table, and last the precision's record and the version's, as `specs/Fields.antt` of `image_format` has them: the marks, BO, RE, SH, FA, LO, FI, ED, VE, CU, SU, PR, VN; how many numbers, floats
 // and lists.
@@ -50,6 +54,9 @@ const WORDS: [usize; 12] = [1, 2, 1, 7, 1, 4, 7, 1, 1, 1, 10, 1];
 const FLOATS: [usize; 12] = [0, 0, 0, 0, 0, 0, 1, 4, 6, 6, 1, 0];
 
 const LISTS: [usize; 12] = [1, 1, 3, 1, 1, 0, 1, 0, 0, 0, 0, 0];
+
+// A body of office 1 has a mark of its own (W-206), BP.
+const SECOND_BODY_MARK: u32 = 0x5042;
 
 // By table: the first of its lists; where the tag stands that may leave the last floats unsaid, the tag that does, and how many they are.
 const FIRST_LISTS: [usize; 10] = [
@@ -82,11 +89,25 @@ const QUIET_TAGS: [u32; 10] = [0, 0, 0, 0, 0, 0, 0, 0, 2, 2];
 
 const QUIET_FLOATS: [usize; 10] = [0, 0, 0, 0, 0, 0, 1, 1, 6, 6];
 
-// One of them, for table k.
-fn mark_of(k: usize) -> u32
-    requires { ⌜ k < 10 ⌝ }
-    ensures { λ r. ⌜ r ≡ word marks k ⌝ }
+// A body's mark, by its office.
+fn body_mark(w: &[u32]) -> u32
+    requires { ⌜ AT-BODY-OFFICE < length (now w) ⌝ }
+    ensures { λ r. ⌜ r ≡ markOf BODIES (officeOf (word (now (w .entry)) AT-BODY-OFFICE)) ⌝ }
 {
+    if w[AT_BODY_OFFICE] == 0 {
+        return MARKS[BODIES];
+    }
+    SECOND_BODY_MARK
+}
+
+// One of them, for table k.
+fn mark_of(k: usize, w: &[u32]) -> u32
+    requires { ⌜ Listed k (now w) ⌝ }
+    ensures { λ r. ⌜ r ≡ markOf k (officeHere k (now (w .entry))) ⌝ }
+{
+    if k == BODIES {
+        return body_mark(w);
+    }
     MARKS[k]
 }
 
@@ -254,7 +275,7 @@ pub fn write_record(k: usize, w: &[u32], x: &[f64], bytes: &mut [u8], at: usize)
     ensures end { λ r. ⌜ r ≡ at + length (recordImage k (fieldsOf k (now (w .entry)) (now (x .entry)))) ⌝ }
     ensures written { λ _. ⌜ now (bytes .exit) ≡ over at (recordImage k (fieldsOf k (now (w .entry)) (now (x .entry)))) (now (bytes .entry)) ⌝ }
 {
-    put_mark(bytes, at, mark_of(k));
+    put_mark(bytes, at, mark_of(k, w));
     let tail = put_head(k, w, bytes, at + 2);
     let lists = put_tail(k, w, x, bytes, tail);
     put_lists(k, w, bytes, lists)

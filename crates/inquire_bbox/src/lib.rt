@@ -1,6 +1,6 @@
 // Inner: boxes of points (bbox.rs).
 //
-// The family inquire_: box and volume of a body. Call inquire_box and inquire_volume. Read inquire_bbox, inquire_polyhedral, inquire_box; then, for the
+// The family inquire_: box and volume of a body. They are asked by an office (office_measures). Read inquire_bbox, inquire_polyhedral, inquire_box; then, for the
 // volume, inquire_fin_starts, where the fins of a loop start, inquire_fan, the fan of those points, inquire_sides, a face as a shell lists it, inquire_regions, the sides of
 // the solid regions, inquire_volume.
 pub mod bbox;

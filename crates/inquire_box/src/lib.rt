@@ -1,4 +1,4 @@
-// For callers: `body_bounding_box` of inquire.rs. specs/Answers.antt says what it answers. Inner: `bounding_box`, and the module `extent`, the box of
+// Inner: `body_bounding_box` of inquire.rs, whatever the body's office; callers ask `office_measures`. specs/Answers.antt says what it answers. Besides, `bounding_box`, and the module `extent`, the box of
 // what a path lists.
 pub mod extent;
 

@@ -1,4 +1,4 @@
-// For callers: `body_volume` of inquire.rs. specs/Answers.antt says what it answers. Inner: `solid_volume`, which asks that the walks are not refused.
+// Inner: `body_volume` of inquire.rs, whatever the body's office; callers ask `office_measures`. specs/Answers.antt says what it answers. Besides, `solid_volume`, which asks that the walks are not refused.
 use inquire_polyhedral::polyhedral_refusal;
 use inquire_regions::Tally;
 use inquire_regions::regions_tally;

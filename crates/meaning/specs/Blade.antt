@@ -11,7 +11,7 @@ use Rattle.geom_lines_planes.specs.declared.tolerance.Version.the-variants.{Fir
 use Rattle.geom_carriers.specs.declared.Carrier.{Carrier}
 use Rattle.geom_carriers.specs.declared.Carrier.the-variants as Carriers
 use Rattle.meaning.specs.Floats.{_/ᶠ_, floatOf}
-use Rattle.meaning.specs.Model.{sheet, solid, positive, negative, Body, Region, Shell, Face, Loop, Fin, Edge, Vertex, Table, Model, Limits}
+use Rattle.meaning.specs.Model.{sheet, solid, office-0, positive, negative, Body, Region, Shell, Face, Loop, Fin, Edge, Vertex, Table, Model, Limits}
 use Rattle.meaning.specs.Edits.{edited}
 use Rattle.meaning.specs.Stone.{milli, at, way, line, plane, right, up, tableOf, vertexAt, anEdge, aFin, aLoop, aShell, aRegion, corner}
 
@@ -25,7 +25,7 @@ blade =
     record {
       version = First;
       precision = milli;
-      bodies = tableOf (record { kind = sheet; regions = 0 ∷ [] }) [];
+      bodies = tableOf (record { kind = sheet; office = office-0; regions = 0 ∷ [] }) [];
       regions = tableOf (aRegion 0 false (0 ∷ [])) [];
       shells = tableOf (aShell 0 (0 ∷ [])) [];
       faces = tableOf bladeFace [];
@@ -48,7 +48,7 @@ wafer =
     record {
       version = First;
       precision = milli;
-      bodies = tableOf (record { kind = solid; regions = 0 ∷ 1 ∷ [] }) [];
+      bodies = tableOf (record { kind = solid; office = office-0; regions = 0 ∷ 1 ∷ [] }) [];
       regions = tableOf (aRegion 0 false (0 ∷ [])) (aRegion 0 true (1 ∷ []) ∷ []);
       shells = tableOf (aShell 0 (0 ∷ [])) (aShell 1 (0 ∷ []) ∷ aShell 0 (0 ∷ []) ∷ []);
       faces = tableOf (waferFace (some 0) (some 1) (0 ∷ [])) (waferFace none (some 1) [] ∷ []);
@@ -81,6 +81,9 @@ withPrecision p m = record { version = m .version; precision = p; bodies = m .bo
 
 abbrev pub withVersion : Version → Model → Model
 withVersion v m = record { version = v; precision = m .precision; bodies = m .bodies; regions = m .regions; shells = m .shells; faces = m .faces; loops = m .loops; fins = m .fins; edges = m .edges; vertices = m .vertices; curves = m .curves; surfaces = m .surfaces }
+
+abbrev pub withBodies : Table Body → Model → Model
+withBodies t m = record { version = m .version; precision = m .precision; bodies = t; regions = m .regions; shells = m .shells; faces = m .faces; loops = m .loops; fins = m .fins; edges = m .edges; vertices = m .vertices; curves = m .curves; surfaces = m .surfaces }
 
 abbrev pub withBody : ℕ → Body → Model → Model
 withBody i r m = record { version = m .version; precision = m .precision; bodies = put i r (m .bodies); regions = m .regions; shells = m .shells; faces = m .faces; loops = m .loops; fins = m .fins; edges = m .edges; vertices = m .vertices; curves = m .curves; surfaces = m .surfaces }
@@ -119,10 +122,10 @@ quarter = floatOf 1 /ᶠ floatOf 4
 
 -- the blade's body, and the same as a solid
 abbrev pub regionsAre : List ℕ → Model → Model
-regionsAre l = withBody 0 (record { kind = sheet; regions = l })
+regionsAre l = withBody 0 (record { kind = sheet; office = office-0; regions = l })
 
 abbrev pub asSolid : Model → Model
-asSolid = withBody 0 (record { kind = solid; regions = 0 ∷ [] })
+asSolid = withBody 0 (record { kind = solid; office = office-0; regions = 0 ∷ [] })
 
 -- the blade's edge: ends, curve, fins
 abbrev pub edgeIs : Option ℕ → Option ℕ → Option ℕ → List ℕ → Model → Model
@@ -153,7 +156,7 @@ shellIs i f w a = withShell i (record { region = i; faces = f; wireEdges = w; ac
 
 -- the wafer as a sheet; its second region, second shell and face
 abbrev pub asSheet : Model → Model
-asSheet = withBody 0 (record { kind = sheet; regions = 0 ∷ 1 ∷ [] })
+asSheet = withBody 0 (record { kind = sheet; office = office-0; regions = 0 ∷ 1 ∷ [] })
 
 abbrev pub allVoid : Model → Model
 allVoid = withRegion 1 (aRegion 0 false (1 ∷ []))

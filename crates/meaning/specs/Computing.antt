@@ -18,6 +18,7 @@ use Rattle.meaning.specs.Inquire.{flatFace, straightEdge, requirePolyhed
 use Rattle.meaning.specs.Split.{lo, hi, parameter, splitPoint, test7, test8, test9, test10, onPlane, test11-fin, test11-fins, test12, test13, boundsRefusal, splitRefusal, afterSplit, modelAfter, afterAll}
 use Rattle.meaning.specs.Faults.{faultOn, geometryError, curveTest, pointOnSurface, endTests, sampleAt, sampleTest, sampleTests, carried, finGeometry, finFindings, opens, loopFindings, faceFindings, shellFindings, regionFindings, manifold, manifoldEdge, manifoldEdges, findings, faultsOf, skippedOf, reportOf, checkRefusal, solidFace, ownShells, wholeSolid, sawable}
 use Rattle.meaning.specs.Formed.{tablesPass, idsOk, listedOk, closed, loopCloses, wellFormed}
+use Rattle.meaning.specs.Offices.{bodyFor, foreignEdge, edgeFor, officeSplitRefusal, officeModelAfter, officeAfterAll}
 
 unfoldable pub computing : ℕ
 unfolding toBits ofBits add sub mul div neg round ofInt isNan lt le eq nextUp nextDown ONE exactSum pointI addI subI mulI sqrI signI finitePoint minus along scaledV dotV
@@ -28,4 +29,5 @@ unfolding toBits ofBits add sub mul div neg round ofInt isNan lt le eq nextUp ne
     test11-fin test11-fins test12 test13 boundsRefusal splitRefusal afterSplit modelAfter afterAll faultOn geometryError curveTest pointOnSurface
     endTests sampleAt sampleTest sampleTests carried finGeometry finFindings opens loopFindings faceFindings shellFindings regionFindings manifold
     manifoldEdge manifoldEdges findings faultsOf skippedOf reportOf checkRefusal solidFace ownShells wholeSolid sawable tablesPass idsOk listedOk closed loopCloses wellFormed
+    bodyFor foreignEdge edgeFor officeSplitRefusal officeModelAfter officeAfterAll
 computing = 0

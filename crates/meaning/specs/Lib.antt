@@ -8,6 +8,7 @@ pub mod Inquire
 pub mod Split
 pub mod Faults
 pub mod Formed
+pub mod Offices
 pub mod Computing
 pub mod Stone
 pub mod Blade

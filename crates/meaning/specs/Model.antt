@@ -19,8 +19,13 @@ pub data BodyKind : Type 0 where
 pub data Sense : Type 0 where
   positive negative : Sense
 
+-- W-206, "Each body carries an office number, 0 or 1"
+pub data Office : Type 0 where
+  office-0 office-1 : Office
+
 pub record Body : Type 0 where
   pub kind : BodyKind
+  pub office : Office
   pub regions : List ℕ
 
 pub record Region : Type 0 where

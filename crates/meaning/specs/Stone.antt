@@ -12,7 +12,7 @@ use Rattle.geom_lines_planes.specs.declared.tolerance.Version.the-variants.{Fir
 use Rattle.geom_carriers.specs.declared.Carrier.{Carrier}
 use Rattle.geom_carriers.specs.declared.Carrier.the-variants as Carriers
 use Rattle.meaning.specs.Floats.{floatOf}
-use Rattle.meaning.specs.Model.{solid, Sense, positive, negative, Region, Shell, Face, Loop, Fin, Edge, Vertex, Table, Model}
+use Rattle.meaning.specs.Model.{solid, office-0, Sense, positive, negative, Region, Shell, Face, Loop, Fin, Edge, Vertex, Table, Model}
 
 -- ---- floats, points, carriers
 
@@ -105,7 +105,7 @@ stone =
     record {
       version = First;
       precision = milli;
-      bodies = tableOf (record { kind = solid; regions = 0 ∷ 1 ∷ [] }) [];
+      bodies = tableOf (record { kind = solid; office = office-0; regions = 0 ∷ 1 ∷ [] }) [];
       regions = tableOf (aRegion 0 false (0 ∷ [])) (aRegion 0 true (1 ∷ []) ∷ []);
       shells = tableOf (aShell 0 (0 ∷ 1 ∷ 2 ∷ 3 ∷ 4 ∷ 5 ∷ [])) (aShell 1 (0 ∷ 1 ∷ 2 ∷ 3 ∷ 4 ∷ 5 ∷ []) ∷ []);
       faces = tableOf (stoneFace 0) (stoneFace 1 ∷ stoneFace 2 ∷ stoneFace 3 ∷ stoneFace 4 ∷ stoneFace 5 ∷ []);

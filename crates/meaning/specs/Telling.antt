@@ -9,14 +9,15 @@ use lib.Ieee.{Float, binary64, neg, toBits}
 use Rattle.geom_lines_planes.specs.declared.tolerance.Tolerance.the-variants.{Own}
 use Rattle.geom_lines_planes.specs.declared.tolerance.Version.the-variants.{Second}
 use Rattle.meaning.specs.Floats.{_/ᶠ_, floatOf}
-use Rattle.meaning.specs.Model.{Model, positive}
+use Rattle.meaning.specs.Model.{Model, sheet, wire, office-0, office-1, positive, largest}
 use Rattle.meaning.specs.Refuse.{given}
 use Rattle.meaning.specs.Walks.{faceWalk, facesRefusal, edgeWalk, edgesRefusal, vertexWalk, verticesRefusal}
 use Rattle.meaning.specs.Inquire.{boxOf, sideVolume}
 use Rattle.meaning.specs.Split.{test10, onPlane, test11-fin, test13, boundsRefusal, afterSplit, modelAfter, afterAll}
 use Rattle.meaning.specs.Faults.{Finding, skipped, fault, sampleAt, curveTest, sampleTests, carried, findings, reportOf, checkRefusal, counts, wholeSolid, fitToSaw, otherRing}
-use Rattle.meaning.specs.Stone.{at, plane, up, corner, stone, right, line, anEdge, aLoop}
-use Rattle.meaning.specs.Blade.{blade, withVersion, withRegion, withShell, withLoop, withFin, withVertex, withSurface, quarter, onAxis, asSolid, edgeIs, endsAre, curveIs, finsAre, faceIs, loopsAre, shellIs, startAt, endAt, otherCurve, otherSurface, tolerantEdge, askew, room, withCurve, regionsAre, wafer, asSheet, allVoid, solidShells, solidFaces, backIs}
+use Rattle.meaning.specs.Offices.{bodyFor, foreignEdge, officeSplitRefusal, officeAfterAll}
+use Rattle.meaning.specs.Stone.{tableOf, at, plane, up, corner, stone, right, line, anEdge, aLoop}
+use Rattle.meaning.specs.Blade.{blade, withVersion, withBodies, withRegion, withShell, withLoop, withFin, withVertex, withSurface, quarter, onAxis, asSolid, edgeIs, endsAre, curveIs, finsAre, faceIs, loopsAre, shellIs, startAt, endAt, otherCurve, otherSurface, tolerantEdge, askew, room, withCurve, regionsAre, wafer, asSheet, allVoid, solidShells, solidFaces, backIs}
 use Rattle.meaning.specs.Computing.{computing}
 
 -- ---- walks
@@ -254,3 +255,33 @@ missing-shell = refl
 lists-another : wholeSolid (solidFaces (1 ∷ []) wafer) 0 ≡ false
 unfolding computing
 lists-another = refl
+
+-- ---- two offices (W-206)
+
+-- the blade is office 0's; behind it stand bodies of office 1 with these regions
+abbrev shared : List (List ℕ) → Model
+shared l = withBodies (tableOf (record { kind = sheet; office = office-0; regions = 0 ∷ [] }) (map (λ r. record { kind = wire; office = office-1; regions = r }) l)) blade
+
+-- each office has its own bodies under their ids, the other's under the id behind the last, and an id that names none stays
+own-bodies : map (λ o. map (bodyFor (shared ((0 ∷ []) ∷ [])) o) (0 ∷ 1 ∷ 2 ∷ 7 ∷ [])) (0 ∷ 1 ∷ []) ≡ (0 ∷ 2 ∷ 2 ∷ 7 ∷ []) ∷ (2 ∷ 1 ∷ 2 ∷ 7 ∷ []) ∷ []
+unfolding computing
+own-bodies = refl
+
+-- the blade's edge is refused to office 1, which has no body with it; to both, where both have; and again to office 1 alone, where the walk of office 1's body fails; body by body
+foreign-edges : map (λ l. map (λ o. foreignEdge (shared l) o 0) (0 ∷ 1 ∷ [])) (([] ∷ []) ∷ ((0 ∷ []) ∷ []) ∷ ((0 ∷ 9 ∷ []) ∷ []) ∷ ((0 ∷ 9 ∷ []) ∷ (0 ∷ []) ∷ []) ∷ [])
+    ≡ (false ∷ true ∷ []) ∷ (true ∷ true ∷ []) ∷ (false ∷ true ∷ []) ∷ (true ∷ true ∷ []) ∷ []
+unfolding computing
+foreign-edges = refl
+
+-- a foreign edge is a missing one: behind test 1, and not at all for an office that there is none of
+foreign-as-missing : map (λ o. officeSplitRefusal largest (shared ([] ∷ [])) o 0 quarter) (0 ∷ 1 ∷ 2 ∷ []) ∷ map (λ o. officeSplitRefusal largest (shared ([] ∷ [])) o 0 (floatOf 1)) (0 ∷ 1 ∷ 2 ∷ []) ∷ []
+    ≡ (0 ∷ 2 ∷ 1 ∷ []) ∷ (1 ∷ 1 ∷ 1 ∷ []) ∷ []
+unfolding computing
+foreign-as-missing = refl
+
+-- the other office's split changes nothing, and the next is asked of what it left
+by-both : map (λ l. officeAfterAll largest (shared ([] ∷ [])) l .edges .used)
+    ((record { office = 1; edge = 0; fraction = quarter } ∷ []) ∷ (record { office = 0; edge = 0; fraction = quarter } ∷ record { office = 1; edge = 1; fraction = quarter } ∷ record { office = 0; edge = 1; fraction = quarter } ∷ []) ∷ [])
+    ≡ 1 ∷ 3 ∷ []
+unfolding computing
+by-both = refl

@@ -8,7 +8,7 @@ use lib.Ieee.{Float, nan, binary64, toBits}
 use Rattle.interval_arithmetic.specs.Ops.{pointI, addI}
 use Rattle.float_vectors.specs.declared.vector.Point3.{Point3}
 use Rattle.meaning.specs.Floats.{_/ᶠ_, floatOf}
-use Rattle.meaning.specs.Model.{Model, solid, largest}
+use Rattle.meaning.specs.Model.{Model, solid, office-0, largest}
 use Rattle.meaning.specs.Refuse.{Answer, refused, given}
 use Rattle.meaning.specs.Walks.{bodyFaces, bodyEdges, bodyVertices}
 use Rattle.meaning.specs.Inquire.{bodyBoundingBox, bodyVolume}
@@ -69,7 +69,7 @@ finStruck = withLoop 0 (aLoop 0 (0 ∷ 1 ∷ 2 ∷ [])) stone
 
 -- "solid with a void region only": the body keeps its first region alone, which has no shell
 abbrev hollow : Model
-hollow = withBody 0 (record { kind = solid; regions = 0 ∷ [] }) (withRegion 0 (aRegion 0 false []) stone)
+hollow = withBody 0 (record { kind = solid; office = office-0; regions = 0 ∷ [] }) (withRegion 0 (aRegion 0 false []) stone)
 
 abbrev pub rows : List (Row Ask Told)
 rows =

@@ -1,5 +1,6 @@
 -- What is made of a list, of a test and of a row of refusals is the same where each part that is read is; what is met is a member. Assumes nothing.
-use Prim.Native.Nat.{ℕ, zero, suc}
+use Prim.Native.Nat.{ℕ, zero, suc, _<_}
+use native.Mathlib.Omega.{arith}
 use mathlib.Core.Path.{_≡_, refl, sym, ap, _∙_, subst}
 use mathlib.Core.Bool.{Bool, true, false, cond, _&&_, _||_, false≢true}
 use mathlib.Core.Logic.{_⊎_, inl, inr}
@@ -10,11 +11,11 @@ use borrow.Author.Tests.{eqb-true}
 use Rattle.geom_lines_planes.specs.Refuse.{_then_}
 use Rattle.geom_carriers.specs.declared.Carrier.{Carrier}
 use Rattle.geom_carriers.specs.declared.Found.the-variants.{There, Missing}
-use Rattle.meaning.specs.Lists.{all, any, joined, member, listed, the, isSome}
+use Rattle.meaning.specs.Lists.{run, all, any, joined, member, listed, the, isSome}
 use Rattle.meaning.specs.Model.{Table, has, carrierAt}
 use Rattle.meaning.specs.Refuse.{answered, firstOf}
 use Rattle.meaning_list_laws.specs.Tests.{then-zero}
-use Rattle.meaning_list_laws.specs.Lists.{member-append, member-none, member-cons, member-head, member-tail, all-member, fold-in}
+use Rattle.meaning_list_laws.specs.Lists.{member-append, member-none, member-cons, member-head, member-tail, member-counted, count-run-in, all-member, fold-in}
 use Rattle.meaning_isolation.specs.Reached.{named, Agree}
 
 -- ---- tests, refusals and answers
@@ -110,6 +111,33 @@ map-in h (z ∷ l) y g = by (eqb y z) (eqb-true y z) (sym (member-cons y z l) �
 pub the-listed : (o : Option ℕ) → isSome o ≡ true → member (the o) (listed o) ≡ true
 the-listed none h = absurd (false≢true h)
 the-listed (some i) h = member-head i []
+
+-- every number below n
+pub member-run : (n x : ℕ) → x < n → member x (run 0 n) ≡ true
+member-run n x h = member-counted x (run 0 n) (omega (arith, count-run-in 0 n x (omega arith) (omega arith)))
+
+-- some entry passes exactly where one that is listed does
+pub any-in : (p : ℕ → Bool) (l : List ℕ) (y : ℕ) → member y l ≡ true → p y ≡ true → any p l ≡ true
+unfolding any
+any-in p [] y h g = absurd (false≢true (sym (member-none y) ∙ h))
+any-in p (z ∷ l) y h g = by (eqb y z) (eqb-true y z) (sym (member-cons y z l) ∙ h) (λ q. any-in p l y q g)
+  where
+    either : (b : Bool) → (b || true) ≡ true
+    either true = refl
+    either false = refl
+
+    by : (b : Bool) → (b ≡ true → y ≡ z) → (b || member y l) ≡ true → (member y l ≡ true → any p l ≡ true) → (p z || any p l) ≡ true
+    by true e q again = rw (sym (ap p (e refl)) ∙ g)
+    by false e q again = rw (again q) (either (p z))
+
+pub any-from : (p : ℕ → Bool) (l : List ℕ) → any p l ≡ true → (y : ℕ) × (member y l ≡ true) × (p y ≡ true)
+unfolding any
+any-from p [] h = absurd (false≢true h)
+any-from p (z ∷ l) h = by (p z) refl (λ q. any-from p l q)
+  where
+    by : (b : Bool) → p z ≡ b → (any p l ≡ true → (y : ℕ) × (member y l ≡ true) × (p y ≡ true)) → (y : ℕ) × (member y (z ∷ l) ≡ true) × (p y ≡ true)
+    by true e again = (z, member-head z l, e)
+    by false e again = let rest = again (sym (ap (λ b. b || any p l) e) ∙ h) in (rest .0, member-tail (rest .0) z l (rest .1), rest .2)
 
 -- where no entry is refused, a member is not
 pub firstOf-zero : (f : ℕ → ℕ) (l : List ℕ) (y : ℕ) → firstOf f l ≡ 0 → member y l ≡ true → f y ≡ 0

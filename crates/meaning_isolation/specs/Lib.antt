@@ -1,7 +1,11 @@
 pub mod Reached
+pub mod Told
 pub mod Laws
 pub mod Walked
 pub mod Measured
 pub mod Reported
+pub mod Offices
+pub mod Asked
 pub mod Statements
 pub mod Apart
+pub mod TwoOffices

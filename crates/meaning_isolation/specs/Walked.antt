@@ -220,15 +220,15 @@ module _ (m n : Model) (b : ℕ) (a : Alike m n b) where
         let wires : List ℕ = joined (λ s. shell m s .wireEdges) (shellsOf m b) in
         elim (append-from e faces wires (sym (member-firsts e (faces ++ wires)) ∙ g)) [
           | inl q ↦
-            let p = joined-from (faceEdges m) (faceWalk m b) e q in
-            let o = map-from (λ i. fin m i .edge) (joined (λ l. loop m l .fins) (face m (p .0) .loops)) e (p .2) in
-            let k = joined-from (λ l. loop m l .fins) (face m (p .0) .loops) (o .0) (o .1) in
-            let t = fin-there (p .0) (p .1) (k .0) (o .0) (k .1) (k .2) in
-            subst (λ (d : ℕ). member d (edgesMet m b) ≡ true) (o .2) (edge-in m b (o .0) (t .0) (t .1))
+              let p = joined-from (faceEdges m) (faceWalk m b) e q in
+              let o = map-from (λ i. fin m i .edge) (joined (λ l. loop m l .fins) (face m (p .0) .loops)) e (p .2) in
+              let k = joined-from (λ l. loop m l .fins) (face m (p .0) .loops) (o .0) (o .1) in
+              let t = fin-there (p .0) (p .1) (k .0) (o .0) (k .1) (k .2) in
+              subst (λ (d : ℕ). member d (edgesMet m b) ≡ true) (o .2) (edge-in m b (o .0) (t .0) (t .1))
           | inr q ↦
-            let p = joined-from (λ s. shell m s .wireEdges) (shellsOf m b) e q in
-            let t = shell-there (walked .0) (p .0) (p .1) in
-            wire-in m b (p .0) (t .0) (t .1) e (p .2)
+              let p = joined-from (λ s. shell m s .wireEdges) (shellsOf m b) e q in
+              let t = shell-there (walked .0) (p .0) (p .1) in
+              wire-in m b (p .0) (t .0) (t .1) e (p .2)
         ]
 
   pub edges-same : bodyEdges m b ≡ bodyEdges n b
@@ -273,13 +273,13 @@ module _ (m n : Model) (b : ℕ) (a : Alike m n b) where
         let acorns : List ℕ = joined (λ s. shell m s .acornVertices) (shellsOf m b) in
         elim (append-from v ends acorns (sym (member-firsts v (ends ++ acorns)) ∙ g)) [
           | inl q ↦
-            let p = joined-from (λ e. edgeVertices (edge m e)) (edgeWalk m b) v q in
-            let t = edge-there (p .0) (p .1) in
-            vertex-in m b (p .0) (t .0) (t .1) v (p .2)
+              let p = joined-from (λ e. edgeVertices (edge m e)) (edgeWalk m b) v q in
+              let t = edge-there (p .0) (p .1) in
+              vertex-in m b (p .0) (t .0) (t .1) v (p .2)
           | inr q ↦
-            let p = joined-from (λ s. shell m s .acornVertices) (shellsOf m b) v q in
-            let t = shell-there faces-walked (p .0) (p .1) in
-            acorn-in m b (p .0) (t .0) (t .1) v (p .2)
+              let p = joined-from (λ s. shell m s .acornVertices) (shellsOf m b) v q in
+              let t = shell-there faces-walked (p .0) (p .1) in
+              acorn-in m b (p .0) (t .0) (t .1) v (p .2)
         ]
 
   pub vertices-same : bodyVertices m b ≡ bodyVertices n b

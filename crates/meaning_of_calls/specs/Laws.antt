@@ -5,7 +5,7 @@ use mathlib.Core.List.{List, []}
 use lib.Dec.{leb}
 use lib.ListN.{length}
 use Rattle.geom_lines_planes.specs.Refuse.{_unless_, _then_, answer}
-use Rattle.meaning.specs.Refuse.{answered}
+use Rattle.meaning.specs.Refuse.{Answer, answered}
 use Rattle.walk_answers.specs.Calls.{handed}
 use Rattle.meaning_of_calls.specs.Shown.{_else_, shown, onList, WalkIs}
 
@@ -40,3 +40,22 @@ module _ (l : List ℕ) where
   behind-walk zero zero (suc n) space = number-walked (suc n)
   behind-walk zero (suc b) n space = number-walked (suc b)
   behind-walk (suc a) b n space = number-walked (suc a)
+
+-- a call by an office: its refusal b stands right behind a, the call's first, which the number of before begins with
+module _ {A B C : Type 0} (is : B → C) (by : ℕ → C) (show : A → C) (v : B) (d : Answer A) where
+  pub office-one : (a b n : ℕ) → answer is by (a then n) v ≡ shown show by (a else d) → answer is by (a then b then a then n) v ≡ shown show by (a then b else d)
+  office-one zero zero n e = e
+  office-one zero (suc b) n e = refl
+  office-one (suc a) b n e = refl
+
+  pub office-two : (a b c n : ℕ) → answer is by (a then c then n) v ≡ shown show by (a then c else d) → answer is by (a then b then a then c then n) v ≡ shown show by (a then b then c else d)
+  office-two zero zero c n e = e
+  office-two zero (suc b) c n e = refl
+  office-two (suc a) b c n e = refl
+
+pub office-walk : (l : List ℕ) (d : Answer (List ℕ)) (space a b c n : ℕ) → WalkIs (onList space (a then c else d)) (a then c then n) (handed (a then c then n) l)
+    → WalkIs (onList space (a then b then c else d)) (a then b then a then c then n) (handed (a then b then a then c then n) l)
+unfolding handed
+office-walk l d space zero zero c n h = h
+office-walk l d space zero (suc b) c n h = record { number = refl; list = refl }
+office-walk l d space (suc a) b c n h = record { number = refl; list = refl }

@@ -4,3 +4,5 @@ pub mod Statements
 pub mod Entries
 pub mod Limits
 pub mod Tables
+pub mod Offices
+pub mod Isolated

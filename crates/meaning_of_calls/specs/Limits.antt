@@ -7,7 +7,7 @@ use lib.Dec.{leb}
 use lib.Ieee.{Float}
 use Rattle.meaning.specs.Lists.{run}
 use Rattle.meaning.specs.Model.{Limits, largest}
-use Rattle.memory_layout.specs.Names.{BODIES, REGIONS, SHELLS, FACES, LOOPS, EDGES, AT-BODY-KIND, AT-BODY-REGIONS, AT-REGION-SOLID, AT-REGION-SHELLS, AT-SHELL-FACES, AT-SHELL-WIRES, AT-SHELL-ACORNS, AT-FACE-FRONT, AT-FACE-BACK, AT-FACE-SURFACE, AT-FACE-SENSE, AT-FACE-LOOPS, AT-LOOP-FINS, AT-FIN-PCURVE, AT-EDGE-START, AT-EDGE-END, AT-EDGE-CURVE, AT-EDGE-TOLERANCE, AT-EDGE-FINS, AT-VERTEX-TOLERANCE, AT-CARRIER-TAG, FLOAT-EDGE-TOLERANCE}
+use Rattle.memory_layout.specs.Names.{BODIES, REGIONS, SHELLS, FACES, LOOPS, EDGES, AT-BODY-KIND, AT-BODY-OFFICE, AT-BODY-REGIONS, AT-REGION-SOLID, AT-REGION-SHELLS, AT-SHELL-FACES, AT-SHELL-WIRES, AT-SHELL-ACORNS, AT-FACE-FRONT, AT-FACE-BACK, AT-FACE-SURFACE, AT-FACE-SENSE, AT-FACE-LOOPS, AT-LOOP-FINS, AT-FIN-PCURVE, AT-EDGE-START, AT-EDGE-END, AT-EDGE-CURVE, AT-EDGE-TOLERANCE, AT-EDGE-FINS, AT-VERTEX-TOLERANCE, AT-CARRIER-TAG, FLOAT-EDGE-TOLERANCE}
 use Rattle.memory_layout.specs.Layout.{wordStrides, largestTables, word, real}
 use Rattle.memory_layout.specs.Readable.{ownOk, recordOk}
 use Rattle.memory_layout.specs.Entries.{listLimits}
@@ -57,7 +57,7 @@ split-lists-are room = refl
 
 -- the lists that refusal 9 allows, beside the tags of their records
 module _ (w : List ℕ) (x : List Float) where
-  pub body-test : recordOk BODIES w x ≡ (leb (word w AT-BODY-KIND) 4 && leb (word w AT-BODY-REGIONS) (largest .bodyRegions))
+  pub body-test : recordOk BODIES w x ≡ (leb (word w AT-BODY-KIND) 4 && leb (word w AT-BODY-OFFICE) 1 && leb (word w AT-BODY-REGIONS) (largest .bodyRegions))
   unfolding recordOk
   body-test = refl
 

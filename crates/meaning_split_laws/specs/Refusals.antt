@@ -220,7 +220,7 @@ number-says (s ∷ l) n a h = by (s .holds) refl (s .number) refl (number-says l
         let rest : Says l (suc n) = f (rw q at h) in
         record { step = suc (rest .step); before = earlier q rest; here = rest .here; number = rest .number }
 
--- ---- the rows of a split
+-- ---- rows of tests
 
 getD-map : (l : List (List Step)) (k : ℕ) → getD (map first l) k 0 ≡ first (getD l k [])
 unfolding first
@@ -228,7 +228,7 @@ getD-map [] k = refl
 getD-map (r ∷ l) zero = refl
 getD-map (r ∷ l) (suc k) = getD-map l k
 
-abbrev AllNumbered : List (List Step) → Type 0
+abbrev pub AllNumbered : List (List Step) → Type 0
 AllNumbered [] = Unit {0}
 AllNumbered (r ∷ l) = Numbered r × AllNumbered l
 
@@ -237,47 +237,53 @@ numbered-at [] a k = tt
 numbered-at (r ∷ l) a zero = a .0
 numbered-at (r ∷ l) a (suc k) = numbered-at l (a .1) k
 
+-- "the number is n at row k exactly if the tests before k pass and row k's condition for n holds"
+pub rows-where : (rows : List (List Step)) (k n : ℕ) → RefusedAt rows k (suc n) → firstRefusal (map first rows) ≡ suc n
+rows-where rows k n r =
+    first-at (map first rows) k n (λ j h. getD-map rows j ∙ passes-zero (getD rows j []) (r .before j h)) (getD-map rows k ∙ says-number (getD rows k []) n (r .here))
+
+pub rows-only : (rows : List (List Step)) → AllNumbered rows → (n : ℕ) → firstRefusal (map first rows) ≡ suc n → (k : ℕ) × RefusedAt rows k (suc n)
+rows-only rows a n h =
+    let f : (k : ℕ) × ((j : ℕ) → j < k → getD (map first rows) j 0 ≡ 0) × (getD (map first rows) k 0 ≡ suc n) = first-found (map first rows) n h in (
+      f .0,
+      record {
+        before = λ j q. zero-passes (getD rows j []) (numbered-at rows a j) (sym (getD-map rows j) ∙ f .1 j q);
+        here = number-says (getD rows (f .0) []) n (numbered-at rows a (f .0)) (sym (getD-map rows (f .0)) ∙ f .2);
+      },
+    )
+
+pub rows-pass : (rows : List (List Step)) → ((k : ℕ) → Passes (getD rows k [])) → firstRefusal (map first rows) ≡ 0
+rows-pass rows p = first-none (map first rows) (λ k. getD-map rows k ∙ passes-zero (getD rows k []) (p k))
+
+pub pass-only : (rows : List (List Step)) → AllNumbered rows → firstRefusal (map first rows) ≡ 0 → (k : ℕ) → Passes (getD rows k [])
+pass-only rows a h k = zero-passes (getD rows k []) (numbered-at rows a k) (sym (getD-map rows k) ∙ none-refused (map first rows) h k)
+
+-- ---- the rows of a split
+
 module _ (x : Limits) (m : Model) (e : ℕ) (t : Float) where
   numbered-fins : (seen l : List ℕ) → Numbered (finsSteps m e t seen l)
   unfolding finsSteps finSteps
   numbered-fins seen [] = tt
   numbered-fins seen (i ∷ l) = (omega arith, numbered-append (finSteps m e t i) (finsSteps m e t (i ∷ seen) l) (omega arith) (numbered-fins (i ∷ seen) l))
 
-  numbered-rows : AllNumbered (splitRows x m e t)
+  pub numbered-rows : AllNumbered (splitRows x m e t)
   numbered-rows = (tt, (omega arith, (omega arith, (numbered-joined (λ i. 2 when not (has (m .fins) i) ∷ 7 when fin m i .pcurve ∷ []) (edge m e .fins) (λ i. omega arith), (omega arith, (omega arith, (omega arith, (omega arith, (omega arith, (omega arith, (omega arith, (numbered-fins [] (edge m e .fins), (omega arith, (omega arith, tt))))))))))))))
 
   rows-number : firstRefusal (map first (splitRows x m e t)) ≡ splitRefusal x m e t
   unfolding splitRefusal
   rows-number = ap firstRefusal (rows-are-tests x m e t) ∙ first-passed (splitTests x m e t)
 
-  -- "the number is n at row k exactly if the tests before k pass and row k's condition for n holds"
   pub refused-where : (k n : ℕ) → RefusedAt (splitRows x m e t) k (suc n) → splitRefusal x m e t ≡ suc n
-  refused-where k n r =
-      sym rows-number
-      ∙ first-at (map first (splitRows x m e t)) k n
-      (λ j h. getD-map (splitRows x m e t) j ∙ passes-zero (getD (splitRows x m e t) j []) (r .before j h))
-      (getD-map (splitRows x m e t) k ∙ says-number (getD (splitRows x m e t) k []) n (r .here))
+  refused-where k n r = sym rows-number ∙ rows-where (splitRows x m e t) k n r
 
   pub refused-only : (n : ℕ) → splitRefusal x m e t ≡ suc n → (k : ℕ) × RefusedAt (splitRows x m e t) k (suc n)
-  refused-only n h =
-      let R : List (List Step) = splitRows x m e t in
-      let f : (k : ℕ) × ((j : ℕ) → j < k → getD (map first R) j 0 ≡ 0) × (getD (map first R) k 0 ≡ suc n) = first-found (map first R) n (rows-number ∙ h) in (
-        f .0,
-        record {
-          before = λ j q. zero-passes (getD R j []) (numbered-at R numbered-rows j) (sym (getD-map R j) ∙ f .1 j q);
-          here = number-says (getD R (f .0) []) n (numbered-at R numbered-rows (f .0)) (sym (getD-map R (f .0)) ∙ f .2);
-        },
-      )
+  refused-only n h = rows-only (splitRows x m e t) numbered-rows n (rows-number ∙ h)
 
   pub accepted-where : ((k : ℕ) → Passes (getD (splitRows x m e t) k [])) → splitRefusal x m e t ≡ 0
-  accepted-where p =
-      sym rows-number
-      ∙ first-none (map first (splitRows x m e t)) (λ k. getD-map (splitRows x m e t) k ∙ passes-zero (getD (splitRows x m e t) k []) (p k))
+  accepted-where p = sym rows-number ∙ rows-pass (splitRows x m e t) p
 
   pub accepted-only : splitRefusal x m e t ≡ 0 → (k : ℕ) → Passes (getD (splitRows x m e t) k [])
-  accepted-only h k =
-      let R : List (List Step) = splitRows x m e t in
-      zero-passes (getD R k []) (numbered-at R numbered-rows k) (sym (getD-map R k) ∙ none-refused (map first R) (rows-number ∙ h) k)
+  accepted-only h = pass-only (splitRows x m e t) numbered-rows (rows-number ∙ h)
 
 -- a list of rows refuses at one row
 pub one-row : (rows : List (List Step)) (j k n i : ℕ) → RefusedAt rows j n → RefusedAt rows k i → j ≡ k

@@ -85,6 +85,7 @@ module _ (m : Model) where
         loop-fins = λ i h. refl;
         edge-fins = λ i h. refl;
         body-kind = λ i h. refl;
+        body-office = λ i h. refl;
         region-body = λ i h. refl;
         region-solid = λ i h. refl;
         shell-region = λ i h. refl;
@@ -169,6 +170,7 @@ module _ (m : Model) (e : ℕ) (t : Float) (he : e < m .edges .used) where
         loop-fins = λ i h. sifted-joined (λ j. ltb j (m .fins .used)) (withNew m e i) (loop m i .fins) (struck-fin i);
         edge-fins = λ i h. ap (λ l. struckFrom (m .fins .used) l) (edge-was-fins m e t i h);
         body-kind = λ i h. refl;
+        body-office = λ i h. refl;
         region-body = λ i h. refl;
         region-solid = λ i h. refl;
         shell-region = λ i h. refl;
@@ -258,6 +260,7 @@ module _ (a b c : Model) (s r : List ℕ) (f : Restored a b s struckFrom) (g : R
         loop-fins = λ i h. struck-back (a .fins .used) (b .fins .used) (loop a i .fins) (loop b i .fins) (loop c i .fins) (f .fins) (g .loop-fins i (in-loops i h)) (f .loop-fins i h);
         edge-fins = λ i h. struck-back (a .fins .used) (b .fins .used) (edge a i .fins) (edge b i .fins) (edge c i .fins) (f .fins) (g .edge-fins i (in-edges i h)) (f .edge-fins i h);
         body-kind = λ i h. g .body-kind i (in-bodies i h) ∙ f .body-kind i h;
+        body-office = λ i h. g .body-office i (in-bodies i h) ∙ f .body-office i h;
         region-body = λ i h. g .region-body i (in-regions i h) ∙ f .region-body i h;
         region-solid = λ i h. g .region-solid i (in-regions i h) ∙ f .region-solid i h;
         shell-region = λ i h. g .shell-region i (in-shells i h) ∙ f .shell-region i h;
@@ -332,6 +335,7 @@ restored-whole m after split ids r =
       loop-fins = λ i h. r .loop-fins i h ∙ sifted-all (λ j. ltb j (m .fins .used)) (loop m i .fins) (ids .loop-fins i h);
       edge-fins = λ i h. r .edge-fins i h ∙ sifted-all (λ j. ltb j (m .fins .used)) (edge m i .fins) (ids .edge-fins i h);
       body-kind = r .body-kind;
+      body-office = r .body-office;
       region-body = r .region-body;
       region-solid = r .region-solid;
       shell-region = r .shell-region;

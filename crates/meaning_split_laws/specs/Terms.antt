@@ -67,6 +67,7 @@ pub record Restored (m after : Model) (split : List ℕ) (start : ℕ → List �
   pub version : after .version ≡ m .version
   pub precision : after .precision ≡ m .precision
   pub body-kind : (i : ℕ) → i < m .bodies .used → body after i .kind ≡ body m i .kind
+  pub body-office : (i : ℕ) → i < m .bodies .used → body after i .office ≡ body m i .office
   pub region-body : (i : ℕ) → i < m .regions .used → region after i .body ≡ region m i .body
   pub region-solid : (i : ℕ) → i < m .regions .used → region after i .solid ≡ region m i .solid
   pub shell-region : (i : ℕ) → i < m .shells .used → shell after i .region ≡ shell m i .region

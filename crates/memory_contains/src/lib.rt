@@ -1,5 +1,5 @@
-// For callers: `contains`, whether a record is there, `precision`, the session's (model.rs), and `version`, the model's (W-211). Each tests 9 first; an id that a call is
-// asked with is a usize, as a place in a list is. Inner: `refusal`, which the lookups share.
+// For callers: `precision`, the session's (model.rs), and `version`, the model's (W-211). Each tests 9 first; an id that a call is asked with is a usize, as a place in a list is.
+// Inner: `contains`, whether a record is there, whatever the office (callers ask `office_bodies`); `refusal`, which the lookups share.
 use memory_layout::names::BODIES;
 use memory_layout::names::EDGES;
 use memory_layout::names::FACES;

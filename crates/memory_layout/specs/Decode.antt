@@ -14,8 +14,8 @@ use Rattle.geom_lines_planes.specs.declared.tolerance.Version.{Version}
 use Rattle.geom_lines_planes.specs.declared.tolerance.Version.the-variants.{First, Second}
 use Rattle.geom_carriers.specs.declared.Carrier.{Carrier}
 use Rattle.geom_carriers.specs.declared.Carrier.the-variants as Carriers
-use Rattle.meaning.specs.Model.{Model, Table, BodyKind, acorn, wire, sheet, solid, general, Sense, positive, negative, Body, Region, Shell, Face, Loop, Fin, Edge, Vertex}
-use Rattle.memory_layout.specs.Names.{BODIES, REGIONS, SHELLS, FACES, LOOPS, FINS, EDGES, VERTICES, CURVES, SURFACES, AT-BODY-KIND, AT-BODY-REGIONS, AT-REGION-BODY, AT-REGION-SOLID, AT-REGION-SHELLS, AT-SHELL-REGION, AT-SHELL-FACES, AT-SHELL-WIRES, AT-SHELL-ACORNS, AT-FACE-FRONT, AT-FACE-BACK, AT-FACE-SURFACE, AT-FACE-SENSE, AT-FACE-LOOPS, AT-LOOP-FACE, AT-LOOP-FINS, AT-FIN-LOOP, AT-FIN-EDGE, AT-FIN-SENSE, AT-FIN-PCURVE, AT-EDGE-START, AT-EDGE-END, AT-EDGE-CURVE, AT-EDGE-TOLERANCE, AT-EDGE-FINS, AT-VERTEX-TOLERANCE, AT-CARRIER-TAG, VERSION, PRECISION, FLOAT-EDGE-TOLERANCE, FLOAT-VERTEX-POINT, FLOAT-VERTEX-TOLERANCE, FLOAT-CARRIER-ORIGIN, FLOAT-CARRIER-DIRECTION}
+use Rattle.meaning.specs.Model.{Model, Table, BodyKind, acorn, wire, sheet, solid, general, Sense, positive, negative, Office, office-0, office-1, Body, Region, Shell, Face, Loop, Fin, Edge, Vertex}
+use Rattle.memory_layout.specs.Names.{BODIES, REGIONS, SHELLS, FACES, LOOPS, FINS, EDGES, VERTICES, CURVES, SURFACES, AT-BODY-KIND, AT-BODY-OFFICE, AT-BODY-REGIONS, AT-REGION-BODY, AT-REGION-SOLID, AT-REGION-SHELLS, AT-SHELL-REGION, AT-SHELL-FACES, AT-SHELL-WIRES, AT-SHELL-ACORNS, AT-FACE-FRONT, AT-FACE-BACK, AT-FACE-SURFACE, AT-FACE-SENSE, AT-FACE-LOOPS, AT-LOOP-FACE, AT-LOOP-FINS, AT-FIN-LOOP, AT-FIN-EDGE, AT-FIN-SENSE, AT-FIN-PCURVE, AT-EDGE-START, AT-EDGE-END, AT-EDGE-CURVE, AT-EDGE-TOLERANCE, AT-EDGE-FINS, AT-VERTEX-TOLERANCE, AT-CARRIER-TAG, VERSION, PRECISION, FLOAT-EDGE-TOLERANCE, FLOAT-VERTEX-POINT, FLOAT-VERTEX-TOLERANCE, FLOAT-CARRIER-ORIGIN, FLOAT-CARRIER-DIRECTION}
 use Rattle.memory_layout.specs.Layout.{word, real, wordsOf, realsOf}
 
 -- ---- what stands at a place of a record
@@ -42,6 +42,9 @@ kindOf (suc (suc zero)) = sheet
 kindOf (suc (suc (suc zero))) = solid
 kindOf (suc (suc (suc (suc n)))) = general
 
+abbrev pub officeOf : ℕ → Office
+officeOf n = cond (eqb n 0) office-0 office-1
+
 -- the version, 1 or 2, which names itself
 abbrev pub versionOf : ℕ → Version
 versionOf n = cond (eqb n 2) Second First
@@ -59,7 +62,7 @@ vecAt x at = record { x = real x at; y = real x (at + 1); z = real x (at + 2) }
 -- ---- the records
 
 abbrev pub bodyOf : List ℕ → Body
-bodyOf w = record { kind = kindOf (word w AT-BODY-KIND); regions = listAt w AT-BODY-REGIONS }
+bodyOf w = record { kind = kindOf (word w AT-BODY-KIND); office = officeOf (word w AT-BODY-OFFICE); regions = listAt w AT-BODY-REGIONS }
 
 abbrev pub regionOf : List ℕ → Region
 regionOf w = record { body = word w AT-REGION-BODY; solid = flagAt w AT-REGION-SOLID; shells = listAt w AT-REGION-SHELLS }

@@ -16,7 +16,7 @@ use Rattle.geom_lines_planes.specs.declared.tolerance.Version.the-variants.{Fir
 use Rattle.geom_carriers.specs.declared.Carrier.{Carrier}
 use Rattle.geom_carriers.specs.declared.Carrier.the-variants as Carriers
 use Rattle.meaning.specs.Lists.{run, joined}
-use Rattle.meaning.specs.Model.{Model, Table, BodyKind, acorn, wire, sheet, solid, general, Sense, positive, negative, Body, Region, Shell, Face, Loop, Fin, Edge, Vertex}
+use Rattle.meaning.specs.Model.{Model, Table, BodyKind, acorn, wire, sheet, solid, general, Sense, positive, negative, Office, office-0, office-1, Body, Region, Shell, Face, Loop, Fin, Edge, Vertex}
 use Rattle.meaning.specs.Computing.{computing}
 use Rattle.memory_layout.specs.Decode.{listAt, shellOf, faceOf, finOf}
 use Rattle.memory_layout.specs.Readable.{versionOk, bodyOk, regionOk, faceOk, finOk, edgeOk, vertexOk, carrierOk}
@@ -36,6 +36,10 @@ kind wire = 1
 kind sheet = 2
 kind solid = 3
 kind general = 4
+
+abbrev pub office : Office → ℕ
+office office-0 = 0
+office office-1 = 1
 
 abbrev pub maybe : Option ℕ → List ℕ
 maybe none = 0 ∷ 0 ∷ []
@@ -96,7 +100,7 @@ abbrev pub words : Model → List ℕ
 words m =
     rooms m
     ++ (versionTag (m .version) ∷ [])
-    ++ each (m .bodies) (λ r. kind (r .kind) ∷ listed 16 (r .regions))
+    ++ each (m .bodies) (λ r. kind (r .kind) ∷ office (r .office) ∷ listed 16 (r .regions))
     ++ each (m .regions) (λ r. r .body ∷ bit (r .solid) ∷ listed 16 (r .shells))
     ++ each (m .shells) (λ r. r .region ∷ listed 512 (r .faces) ++ listed 256 (r .wireEdges) ++ listed 64 (r .acornVertices))
     ++ each (m .faces) (λ r. maybe (r .front) ++ maybe (r .back) ++ maybe (r .surface) ++ (sense (r .sense) ∷ listed 16 (r .loops)))
@@ -139,8 +143,8 @@ tagged ok k n = map (λ v. ok (replicate k 0 ++ (v ∷ []))) (n ∷ suc n ∷ []
 abbrev zeros : List Float
 zeros = replicate 4 zeroF
 
--- a body's kind; a region's mark; of a face front, back, surface, sense; of a fin sense, pcurve mark; of an edge start, end, curve, tolerance; a vertex's tolerance; a carrier
-tags-known : tagged bodyOk 0 4
+-- a body's kind and office; a region's mark; of a face front, back, surface, sense; of a fin sense, pcurve mark; of an edge start, end, curve, tolerance; a vertex's tolerance; a carrier
+tags-known : tagged bodyOk 0 4 ∷ tagged bodyOk 1 1
     ∷ tagged regionOk 1 1
     ∷ tagged faceOk 0 1 ∷ tagged faceOk 2 1 ∷ tagged faceOk 4 1 ∷ tagged faceOk 6 1
     ∷ tagged finOk 2 1 ∷ tagged finOk 3 1
@@ -148,7 +152,7 @@ tags-known : tagged bodyOk 0 4
     ∷ tagged (λ w. vertexOk w zeros) 0 1
     ∷ tagged carrierOk 0 2
     ∷ []
-    ≡ replicate 14 (true ∷ false ∷ [])
+    ≡ replicate 15 (true ∷ false ∷ [])
 unfolding computing
 tags-known = refl
 

@@ -182,7 +182,7 @@ list-held room w j i f h g =
 -- what a record's test says of its lists
 pub short-list : (j : ℕ) (w : List ℕ) (x : List Float) → j < 8 → recordOk (word listTables j) w x ≡ true → word w (word listPlaces j) ≤ word listLimits j
 unfolding recordOk
-short-list zero w x h e = leb-true (word w 1) 16 (and-both (leb (word w 0) 4) (leb (word w 1) 16) e .1)
+short-list zero w x h e = leb-true (word w 2) 16 (and-both (leb (word w 0) 4 && leb (word w 1) 1) (leb (word w 2) 16) e .1)
 short-list (suc zero) w x h e = leb-true (word w 2) 16 (and-both (leb (word w 1) 1) (leb (word w 2) 16) e .1)
 short-list (suc (suc zero)) w x h e =
     leb-true (word w 1) 512 (and-both (leb (word w 1) 512) (leb (word w 514) 256) (and-both (leb (word w 1) 512 && leb (word w 514) 256) (leb (word w 771) 64) e .0) .0)

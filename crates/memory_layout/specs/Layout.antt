@@ -8,7 +8,7 @@ use lib.Ieee.{Float, nan}
 
 -- how many words a record takes, and how many floats, by table
 abbrev pub wordStrides : List ℕ
-wordStrides = 18 ∷ 19 ∷ 836 ∷ 24 ∷ 1026 ∷ 4 ∷ 16 ∷ 1 ∷ 1 ∷ 1 ∷ []
+wordStrides = 19 ∷ 19 ∷ 836 ∷ 24 ∷ 1026 ∷ 4 ∷ 16 ∷ 1 ∷ 1 ∷ 1 ∷ []
 
 abbrev pub realStrides : List ℕ
 realStrides = 0 ∷ 0 ∷ 0 ∷ 0 ∷ 0 ∷ 0 ∷ 1 ∷ 4 ∷ 6 ∷ 6 ∷ []

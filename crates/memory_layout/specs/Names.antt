@@ -63,8 +63,11 @@ EDGE-FINS = 7
 abbrev pub AT-BODY-KIND : ℕ
 AT-BODY-KIND = 0
 
+abbrev pub AT-BODY-OFFICE : ℕ
+AT-BODY-OFFICE = 1
+
 abbrev pub AT-BODY-REGIONS : ℕ
-AT-BODY-REGIONS = 1
+AT-BODY-REGIONS = 2
 
 -- of a region
 abbrev pub AT-REGION-BODY : ℕ

@@ -7,16 +7,18 @@ use lib.Dec.{eqb, leb}
 use lib.ListN.{length, getD}
 use lib.Ieee.{Float}
 use Rattle.geom_lines_planes.specs.declared.tolerance.Tolerance.the-variants.{Own}
+use Rattle.geom_lines_planes.specs.Refuse.{_unless_, _then_}
 use Rattle.meaning.specs.Lists.{allBelow, every}
 use Rattle.meaning.specs.Edits.{toleranceOk, precisionOk}
-use Rattle.memory_layout.specs.Names.{AT-BODY-KIND, AT-BODY-REGIONS, AT-REGION-SOLID, AT-REGION-SHELLS, AT-SHELL-FACES, AT-SHELL-WIRES, AT-SHELL-ACORNS, AT-FACE-FRONT, AT-FACE-BACK, AT-FACE-SURFACE, AT-FACE-SENSE, AT-FACE-LOOPS, AT-LOOP-FINS, AT-FIN-SENSE, AT-FIN-PCURVE, AT-EDGE-START, AT-EDGE-END, AT-EDGE-CURVE, AT-EDGE-TOLERANCE, AT-EDGE-FINS, AT-VERTEX-TOLERANCE, AT-CARRIER-TAG, VERSION, PRECISION, FLOAT-EDGE-TOLERANCE, FLOAT-VERTEX-TOLERANCE}
+use Rattle.memory_layout.specs.Names.{AT-BODY-KIND, AT-BODY-OFFICE, AT-BODY-REGIONS, AT-REGION-SOLID, AT-REGION-SHELLS, AT-SHELL-FACES, AT-SHELL-WIRES, AT-SHELL-ACORNS, AT-FACE-FRONT, AT-FACE-BACK, AT-FACE-SURFACE, AT-FACE-SENSE, AT-FACE-LOOPS, AT-LOOP-FINS, AT-FIN-SENSE, AT-FIN-PCURVE, AT-EDGE-START, AT-EDGE-END, AT-EDGE-CURVE, AT-EDGE-TOLERANCE, AT-EDGE-FINS, AT-VERTEX-TOLERANCE, AT-CARRIER-TAG, VERSION, PRECISION, FLOAT-EDGE-TOLERANCE, FLOAT-VERTEX-TOLERANCE}
 use Rattle.memory_layout.specs.Layout.{largestTables, word, real, wordsNeeded, realsNeeded, wordsOf, realsOf}
 
 -- ---- a record's tags are known, and its lists within their limits: 01, "Lists: body 16 regions; region 16 shells; shell 512 faces, 256 wire edges,
 -- 64 acorn vertices; face 16 loops; loop 1,024 fins; edge 8 fins"
 
+-- W-206, "an office number, 0 or 1"
 abbrev pub bodyOk : List ℕ → Bool
-bodyOk w = leb (word w AT-BODY-KIND) 4 && leb (word w AT-BODY-REGIONS) 16
+bodyOk w = leb (word w AT-BODY-KIND) 4 && leb (word w AT-BODY-OFFICE) 1 && leb (word w AT-BODY-REGIONS) 16
 
 abbrev pub regionOk : List ℕ → Bool
 regionOk w = leb (word w AT-REGION-SOLID) 1 && leb (word w AT-REGION-SHELLS) 16
@@ -95,3 +97,7 @@ sizedOk room w x = lentOk room w x && countsOk room w
 
 unfoldable pub readable : List ℕ → List ℕ → List Float → Bool
 readable room w x = sizedOk room w x && versionOk (word w VERSION) && precisionOk (real x PRECISION) && tablesOk room w x
+
+-- a call that is handed a tag that is none: 01, "Every call tests 9 first"
+unfoldable pub tagNumber : List ℕ → List ℕ → List Float → ℕ
+tagNumber room w x = 9 unless readable room w x then 1

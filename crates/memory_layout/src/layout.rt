@@ -1,12 +1,14 @@
 // Where the records lie. All arithmetic on the layout is here.
 ghost use mathlib.Core.Path.{_≡_};
-ghost use Prim.Native.Nat.{_<_, _≤_};
+ghost use Prim.Native.Nat.{ℕ, _<_, _≤_};
+ghost use mathlib.Core.List.{List};
 ghost use lib.ListN.{length};
 ghost use Rattle.memory_layout.specs.Layout.{wordStrides, realStrides, word, base, recordAt, wordAt, realAt, wordsNeeded, realsNeeded, wordsOf, realsOf};
+ghost use Rattle.memory_layout.specs.Names.{BODIES};
 ghost use Rattle.memory_layout.specs.Fit.{Small, Strides, Inside};
 
 // How many words a record takes, and how many floats, by table.
-const WORDS: [usize; 10] = [18, 19, 836, 24, 1026, 4, 16, 1, 1, 1];
+const WORDS: [usize; 10] = [19, 19, 836, 24, 1026, 4, 16, 1, 1, 1];
 
 const REALS: [usize; 10] = [0, 0, 0, 0, 0, 0, 1, 4, 6, 6];
 
@@ -43,6 +45,14 @@ pub fn word_at(room: &[usize; 10], k: usize, i: usize) -> usize
 {
     let strides = WORDS;
     record_at(11, &strides, room, k, i)
+}
+
+// Where the record of a body begins, whatever the capacities: the bodies come first.
+pub fn body_at(i: usize) -> usize
+    requires { ⌜ i < 4294967296 ⌝ }
+    ensures { λ r. ⌜ ((room : List ℕ) → r ≡ wordAt room BODIES i) ⌝ }
+{
+    11 + 19 * i
 }
 
 pub fn real_at(room: &[usize; 10], k: usize, i: usize) -> usize

@@ -41,7 +41,9 @@ pub const EDGE_FINS: usize = 7;
 // Where a field stands among the words of a body.
 pub const AT_BODY_KIND: usize = 0;
 
-pub const AT_BODY_REGIONS: usize = 1;
+pub const AT_BODY_OFFICE: usize = 1;
+
+pub const AT_BODY_REGIONS: usize = 2;
 
 // Where a field stands among the words of a region.
 pub const AT_REGION_BODY: usize = 0;

@@ -1,4 +1,4 @@
-// For callers: `list_entry`, an entry of one of the eight lists, and `entry_refusal`. Inner: the lists as views of the lent words, which ask for what
+// Inner: `list_entry`, an entry of one of the eight lists, and `entry_refusal`, whatever the office; callers ask `office_bodies`. Besides, the lists as views of the lent words, which ask for what
 // `readable` has tested.
 use memory_layout::entries::Entry;
 use memory_layout::layout::words_of;

@@ -1,4 +1,5 @@
-// For callers: the lookups of model.rs. Each tests 9, then 2; an id that a call is asked with is a usize, as a place in a list is. Inner: `carrier_found`.
+// For callers: the lookups of model.rs. Each tests 9, then 2; an id that a call is asked with is a usize, as a place in a list is. Inner: `body`, whatever its office (callers
+// ask `office_bodies`), and `carrier_found`.
 use geom_carriers::Carrier;
 use memory_contains::refusal;
 use memory_layout::names::BODIES;

@@ -1,5 +1,5 @@
 // For callers: `readable`, the test of refusal 9, and `lent_ok`. The capacities, the lent memory and the used counts agree, and every used record passes its own test.
-// Inner: the functions that test a part, which ask that the parts before it passed; and `words_row` and `reals_row`, a record among its table's own words and floats.
+// Inner: `unknown_tag`; the functions that test a part, which ask that the parts before it passed; and `words_row` and `reals_row`, a record among its table's own words and floats.
 use memory_layout::layout::real_at;
 use memory_layout::layout::real_stride;
 use memory_layout::layout::reals_needed;
@@ -14,7 +14,7 @@ use memory_record_test::record_ok;
 ghost use mathlib.Core.Path.{_≡_};
 ghost use Prim.Native.Nat.{_+_, _*_, _<_, _≤_};
 ghost use lib.ListN.{length};
-ghost use Rattle.memory_layout.specs.Readable.{roomOk, countsOk, tableOk, tablesOk, lentOk, sizedOk, readable};
+ghost use Rattle.memory_layout.specs.Readable.{roomOk, countsOk, tableOk, tablesOk, lentOk, sizedOk, readable, tagNumber};
 ghost use Rattle.memory_layout.specs.Fit.{Sized};
 ghost use Rattle.memory_layout.specs.TableRows.{row, TableRows, rowsOk};
 
@@ -140,4 +140,14 @@ pub fn readable(room: &[usize; 10], words: &[u32], reals: &[f64]) -> bool
         return false;
     }
     version_ok(words[VERSION]) & precision_ok(reals[PRECISION]) & tables_ok(room, words, reals)
+}
+
+// What a call is refused with that is handed a tag that is none: 9, then 1.
+pub fn unknown_tag(room: &[usize; 10], words: &[u32], reals: &[f64]) -> u32
+    ensures { λ r. ⌜ r ≡ tagNumber (now (room .entry)) (now (words .entry)) (now (reals .entry)) ⌝ }
+{
+    if !readable(room, words, reals) {
+        return 9;
+    }
+    1
 }

@@ -2,6 +2,7 @@
 // `memory_layout` has the tests.
 use float_vectors::vector::is_finite;
 use memory_layout::names::AT_BODY_KIND;
+use memory_layout::names::AT_BODY_OFFICE;
 use memory_layout::names::AT_BODY_REGIONS;
 use memory_layout::names::AT_REGION_SHELLS;
 use memory_layout::names::AT_REGION_SOLID;
@@ -39,10 +40,10 @@ pub fn own_ok(tag: u32, t: f64) -> bool
 }
 
 pub fn body_ok(w: &[u32]) -> bool
-    requires { ⌜ length (now w) ≡ 18 ⌝ }
+    requires { ⌜ length (now w) ≡ 19 ⌝ }
     ensures { λ r. ⌜ r ≡ bodyOk (now (w .entry)) ⌝ }
 {
-    (w[AT_BODY_KIND] <= 4) & (w[AT_BODY_REGIONS] <= 16)
+    (w[AT_BODY_KIND] <= 4) & (w[AT_BODY_OFFICE] <= 1) & (w[AT_BODY_REGIONS] <= 16)
 }
 
 pub fn region_ok(w: &[u32]) -> bool

@@ -2,10 +2,13 @@
 use crate::rows::Row;
 use crate::rows::least;
 use crate::rows::sum;
-use check_report::check_body;
-use inquire_box::body_bounding_box;
-use inquire_volume::body_volume;
 use memory_records::records::Ref;
+use office_measures::body_bounding_box;
+use office_measures::body_volume;
+use office_measures::check_body;
+use office_walks::write_edges;
+use office_walks::write_faces;
+use office_walks::write_vertices;
 use replay_digits::same;
 use split_bounds::Bounds;
 use split_bounds::edge_parameter_bounds;
@@ -14,17 +17,26 @@ use station_answers::BoxFound;
 use station_answers::Checked;
 use station_answers::Split;
 use station_answers::Volume;
-use walk_body::write_edges;
-use walk_body::write_faces;
-use walk_body::write_vertices;
 use walk_fin_ends::FinVertices;
 use walk_fin_ends::fin_vertices;
+
+// Demand 2 compares models of one office, asked by that office (W-206).
+const OFFICE: u32 = 0;
 
 // A walk: its number, how many ids, and their sum.
 fn walk_faces(room: &[usize; 10], words: &[u32], reals: &[f64], out: &mut [u32], w: Row) -> bool {
     let mut faces = [1u8; 24];
     let mut code = 0;
-    let n = write_faces(room, words, reals, w.b as usize, &mut faces, out, &mut code);
+    let n = write_faces(
+        room,
+        words,
+        reals,
+        OFFICE,
+        w.b as usize,
+        &mut faces,
+        out,
+        &mut code,
+    );
     (code == w.c) & (n == w.d as usize) & (sum(&out[..], n) == w.e as u64)
 }
 
@@ -36,6 +48,7 @@ fn walk_edges(room: &[usize; 10], words: &[u32], reals: &[f64], out: &mut [u32],
         room,
         words,
         reals,
+        OFFICE,
         w.b as usize,
         &mut faces,
         &mut edges,
@@ -60,6 +73,7 @@ fn walk_vertices(
         room,
         words,
         reals,
+        OFFICE,
         w.b as usize,
         &mut faces,
         &mut edges,
@@ -120,6 +134,7 @@ pub fn corners(room: &[usize; 10], words: &[u32], reals: &[f64], w: Row, x: &[f6
         room,
         words,
         reals,
+        OFFICE,
         body,
         &mut faces,
         &mut edges,
@@ -137,7 +152,7 @@ pub fn corners(room: &[usize; 10], words: &[u32], reals: &[f64], w: Row, x: &[f6
 // The body; the number. The volume is the first float.
 pub fn volume(room: &[usize; 10], words: &[u32], reals: &[f64], w: Row, x: f64) -> bool {
     let mut faces = [1u8; 24];
-    match body_volume(room, words, reals, w.a as usize, &mut faces) {
+    match body_volume(room, words, reals, OFFICE, w.a as usize, &mut faces) {
         Volume::Refused(n) => n == w.b,
         Volume::Is(v) => (w.b == 0) & same(v, x),
     }
@@ -165,6 +180,7 @@ fn report_in(room: &[usize; 10], words: &[u32], reals: &[f64], list: &mut [u32],
         room,
         words,
         reals,
+        OFFICE,
         w.a as usize,
         w.b != 0,
         w.c as usize,
@@ -188,7 +204,7 @@ pub fn split(
     w: Row,
     fraction: f64,
 ) -> bool {
-    match split_line_edge(room, words, reals, w.a as usize, fraction) {
+    match split_line_edge(room, words, reals, OFFICE, w.a as usize, fraction) {
         Split::Refused(n) => n == w.b,
         Split::Is(made) => (w.b == 0) & (made.new_edge == w.c) & (made.vertex == w.d),
     }

@@ -32,14 +32,14 @@ struct After {
     counts: Counts,
 }
 
-fn put_word(memory: &mut [u32; 33811], at: usize, x: u32) {
-    if at < 33811 {
+fn put_word(memory: &mut [u32; 33815], at: usize, x: u32) {
+    if at < 33815 {
         memory[at] = x;
     }
 }
 
 // Six words at a place.
-fn put_words(memory: &mut [u32; 33811], w: Row) {
+fn put_words(memory: &mut [u32; 33815], w: Row) {
     let at = w.a as usize;
     put_word(memory, at, w.b);
     put_word(memory, at + 1, w.c);
@@ -67,11 +67,11 @@ fn put_floats(memory: &mut [f64; 855], behind: usize, w: Row)
 
 // The sums of all words and of all floats.
 fn memory_is(words: &[u32], reals: &[f64], w: Row) -> bool {
-    (sum(words, 33811) == w.a as u64) & (sum_floats(reals, 849) == w.b as u64)
+    (sum(words, 33815) == w.a as u64) & (sum_floats(reals, 849) == w.b as u64)
 }
 
 // Whether our answer to a question is the row's.
-fn agrees(words: &mut [u32; 33811], reals: &mut [f64; 855], w: Row) -> bool {
+fn agrees(words: &mut [u32; 33815], reals: &mut [f64; 855], w: Row) -> bool {
     let room = ROOM;
     let x = [
         reals[849],
@@ -96,11 +96,11 @@ fn agrees(words: &mut [u32; 33811], reals: &mut [f64; 855], w: Row) -> bool {
 }
 
 // Lays out what the row has of a model.
-fn laid_out(words: &mut [u32; 33811], reals: &mut [f64; 855], w: Row) {
+fn laid_out(words: &mut [u32; 33815], reals: &mut [f64; 855], w: Row) {
     let op = w.op;
     match op {
         0 => {
-            *words = [0; 33811];
+            *words = [0; 33815];
             *reals = [0.0; 855];
         }
         1 => put_words(words, w),
@@ -110,7 +110,7 @@ fn laid_out(words: &mut [u32; 33811], reals: &mut [f64; 855], w: Row) {
 }
 
 // One row of the list; a last row that is not whole counts as an answer that differs.
-fn row(words: &mut [u32; 33811], reals: &mut [f64; 855], counts: Counts) -> After {
+fn row(words: &mut [u32; 33815], reals: &mut [f64; 855], counts: Counts) -> After {
     let mut line = [0u8; 66];
     let n = io::read_full(0, &mut line);
     if n == 0 {
@@ -144,7 +144,7 @@ fn row(words: &mut [u32; 33811], reals: &mut [f64; 855], counts: Counts) -> Afte
 
 // All rows, at most a million.
 fn all() -> Counts {
-    let mut words = [0; 33811];
+    let mut words = [0; 33815];
     let mut reals = [0.0; 855];
     let mut counts = Counts {
         models: 0,

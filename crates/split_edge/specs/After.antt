@@ -11,7 +11,7 @@ use Rattle.memory_layout.specs.Decode.{decode}
 use Rattle.memory_writes.specs.Put.{unlessRefused}
 use Rattle.split_pieces.specs.Pieces.{floatsPut}
 use Rattle.split_writes.specs.Written.{wordsSplit}
-use Rattle.split_place.specs.SplitNumber.{splitNumber}
+use Rattle.split_place.specs.SplitNumber.{splitNumber, officeSplitNumber}
 use Rattle.station_answers.specs.declared.Split.{Split}
 use Rattle.station_answers.specs.declared.Split.the-variants.{Is, Refused}
 
@@ -19,7 +19,7 @@ use Rattle.station_answers.specs.declared.Split.the-variants.{Is, Refused}
 unfoldable pub realsSplit : List ℕ → List ℕ → List Float → ℕ → Float → List Float
 realsSplit room w x e t = floatsPut room (word w EDGES) (word w VERTICES) (splitPoint (decode room w x) e t) (real (realsOf room x EDGES e) FLOAT-EDGE-TOLERANCE) x
 
--- ---- the call: 9, the thirteen tests, then the writing
+-- ---- the split, whoever asks: 9, the thirteen tests, then the writing
 
 module _ (room w : List ℕ) (x : List Float) (e : ℕ) (t : Float) where
   unfoldable pub splitAnswer : Split
@@ -30,3 +30,15 @@ module _ (room w : List ℕ) (x : List Float) (e : ℕ) (t : Float) where
 
   unfoldable pub splitReals : List Float
   splitReals = unlessRefused (splitNumber room w x e t) (realsSplit room w x e t) x
+
+-- ---- the call that names its office (W-206): "right after 9", then the same tests of what the edge is for the office, then the same writing
+
+module _ (room w : List ℕ) (x : List Float) (o e : ℕ) (t : Float) where
+  unfoldable pub officeSplitAnswer : Split
+  officeSplitAnswer = answer Is Refused (officeSplitNumber room w x o e t) (record { «original_edge» = e; «new_edge» = word w EDGES; vertex = word w VERTICES })
+
+  unfoldable pub officeSplitWords : List ℕ
+  officeSplitWords = unlessRefused (officeSplitNumber room w x o e t) (wordsSplit room w e) w
+
+  unfoldable pub officeSplitReals : List Float
+  officeSplitReals = unlessRefused (officeSplitNumber room w x o e t) (realsSplit room w x e t) x

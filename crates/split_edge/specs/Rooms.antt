@@ -9,12 +9,13 @@ use mathlib.Core.List.{List, [], _∷_}
 use lib.Dec.{eqb, ltb, leb}
 use lib.ListN.{length, getD, length-map}
 use lib.Ieee.{Float}
-use borrow.Author.Tests.{leb-true, eqb-true}
+use borrow.Author.Tests.{leb-true, eqb-true, ltb-true}
 use Rattle.geom_lines_planes.specs.Refuse.{_unless_, _then_}
 use Rattle.meaning.specs.Lists.{member, count, countIf, all, allBelow, joined, place}
 use Rattle.meaning.specs.Model.{Model}
-use Rattle.meaning.specs.Split.{splitRefusal}
-use Rattle.meaning_list_laws.specs.Tests.{then-zero, unless-zero, and-both, allBelow-at}
+use Rattle.meaning.specs.Split.{splitTests, splitRefusal}
+use Rattle.meaning.specs.Offices.{officeRefusal, foreignEdge, edgeFor, officeSplitRefusal}
+use Rattle.meaning_list_laws.specs.Tests.{then-zero, unless-zero, and-both, allBelow-at, none-refused}
 use Rattle.meaning_list_laws.specs.Lists.{bound-of}
 use Rattle.memory_layout.specs.Layout.{word, real, wordsOf}
 use Rattle.memory_layout.specs.Decode.{senseOf, decode}
@@ -29,7 +30,7 @@ use Rattle.split_fins.specs.Laws.{counts-listed}
 use Rattle.split_fin_tests.specs.FinTests.{cutAt, finTest}
 use Rattle.split_place.specs.Place.{pointTest, wireTest, ownedBy, loopTest, tablesTest, capacityTest}
 use Rattle.split_place.specs.Facts.{Owned}
-use Rattle.split_place.specs.SplitNumber.{limits, splitNumber, edgeRow, placeRow, roomRow}
+use Rattle.split_place.specs.SplitNumber.{limits, splitNumber, officeSplitNumber, edgeRow, placeRow, roomRow}
 use Rattle.split_place.specs.Laws.{Opened, opened, owned, place-rows, room-rows, split-rows, once-at}
 use Rattle.split_pieces.specs.Pieces.{finWord, finWords}
 use Rattle.split_pieces.specs.Facts.{Slots}
@@ -44,6 +45,21 @@ pub record Accepted (room w : List ℕ) (x : List Float) (e : ℕ) (t : Float) :
   pub owns : Owned room w (listOf room w 7 e)
   pub once : (k : ℕ) → k < length (listOf room w 7 e) → count (getD (listOf room w 7 e) k 0) (listOf room w 6 (finWord room w 0 (getD (listOf room w 7 e) k 0))) ≡ 1
   pub capacity : capacityTest room w e (listOf room w 7 e) ≡ true
+
+-- what an office's call has tested, where it is accepted, is the edge itself: the id of a foreign one would have failed test 2
+pub office-accepted : (room w : List ℕ) (x : List Float) (o e : ℕ) (t : Float) → officeSplitNumber room w x o e t ≡ 0 → (edgeFor (decode room w x) o e ≡ e) × (splitNumber room w x e t ≡ 0)
+unfolding officeSplitNumber officeSplitRefusal edgeFor splitNumber splitRefusal
+office-accepted room w x o e t z =
+    let m = decode room w x in
+    let a = then-zero (9 unless readable room w x) (officeSplitRefusal (limits room) m o e t) z in
+    let b = then-zero (officeRefusal o) (splitRefusal (limits room) m (edgeFor m o e) t) (a .1) in
+    let there = ltb-true (edgeFor m o e) (m .edges .used) (unless-zero 1 _ (none-refused (splitTests (limits room) m (edgeFor m o e) t) (b .1) 1)) in
+    by (foreignEdge m o e) (a .0) (b .1) there
+  where
+    by : (f : Bool) → (9 unless readable room w x) ≡ 0 → splitRefusal (limits room) (decode room w x) (cond f (decode room w x .edges .used) e) t ≡ 0
+        → cond f (decode room w x .edges .used) e < decode room w x .edges .used → (cond f (decode room w x .edges .used) e ≡ e) × (splitNumber room w x e t ≡ 0)
+    by true r n h = absurd (omega arith)
+    by false r n h = (refl, rw (r, n))
 
 module _ (room w : List ℕ) (x : List Float) (e : ℕ) (t : Float) (z : splitNumber room w x e t ≡ 0) where
   abbrev m : Model

@@ -17,7 +17,7 @@ use Rattle.split_sequences.specs.Followed.{number-read}
 -- ---- a row in front
 
 -- a row that passes says nothing
-passing-says : (a : List Step) (n : ℕ) → Passes a → Says a n → ⊥
+pub passing-says : (a : List Step) (n : ℕ) → Passes a → Says a n → ⊥
 passing-says a n p s = false≢true (sym (p .none-holds (s .step)) ∙ s .here)
 
 module _ (a b : List Step) (l : List (List Step)) (p : Passes a) (q : Passes b) where
@@ -35,18 +35,18 @@ module _ (a b : List Step) (l : List (List Step)) (p : Passes a) (q : Passes b) 
 empty-passes : Passes []
 empty-passes = record { none-holds = λ j. refl }
 
-nine-passes : (b : Bool) → b ≡ true → Passes (9 when not b ∷ [])
+pub nine-passes : (b : Bool) → b ≡ true → Passes (9 when not b ∷ [])
 nine-passes b h = record { none-holds = at }
   where
     at : (j : ℕ) → getD (9 when not b ∷ []) j never .holds ≡ false
     at zero = ap not h
     at (suc j) = refl
 
-nine-says : (b : Bool) → b ≡ false → Says (9 when not b ∷ []) 9
+pub nine-says : (b : Bool) → b ≡ false → Says (9 when not b ∷ []) 9
 nine-says b h = record { step = 0; before = λ j q. absurd (omega arith); here = ap not h; number = refl }
 
 -- where it does not pass, nothing else is said
-only-nine : (b : Bool) (l : List (List Step)) → b ≡ false → (k n : ℕ) → RefusedAt ((9 when not b ∷ []) ∷ l) k n → n ≡ 9
+pub only-nine : (b : Bool) (l : List (List Step)) → b ≡ false → (k n : ℕ) → RefusedAt ((9 when not b ∷ []) ∷ l) k n → n ≡ 9
 only-nine b l h zero n r = at (r .here .step) (r .here .here) (r .here .number)
   where
     at : (j : ℕ) → getD (9 when not b ∷ []) j never .holds ≡ true → getD (9 when not b ∷ []) j never .number ≡ n → n ≡ 9

@@ -48,6 +48,7 @@ module _ (m after same : Model) (s : SameModel same after) (split : List ℕ) (s
         loop-fins = old (s .loops) loops (λ i a. struckFrom (m .fins .used) (a .fins) ≡ start (m .fins .used) (loop m i .fins)) (r .loop-fins);
         edge-fins = old (s .edges) (r .edges) (λ i a. struckFrom (m .fins .used) (a .fins) ≡ start (m .fins .used) (edge m i .fins)) (r .edge-fins);
         body-kind = old (s .bodies) bodies (λ i a. a .kind ≡ body m i .kind) (r .body-kind);
+        body-office = old (s .bodies) bodies (λ i a. a .office ≡ body m i .office) (r .body-office);
         region-body = old (s .regions) regions (λ i a. a .body ≡ region m i .body) (r .region-body);
         region-solid = old (s .regions) regions (λ i a. a .solid ≡ region m i .solid) (r .region-solid);
         shell-region = old (s .shells) shells (λ i a. a .region ≡ shell m i .region) (r .shell-region);

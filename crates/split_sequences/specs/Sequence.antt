@@ -1,4 +1,4 @@
--- Calls of `split_line_edge` one after the other: the lent memory behind all of them (01, demand 3: "any sequence of splits, accepted or refused"). Definitions only.
+-- Splits one after the other, whoever asks: the lent memory behind all of them (01, demand 3: "any sequence of splits, accepted or refused"). Definitions only.
 use Prim.Native.Nat.{ℕ}
 use mathlib.Core.Bool.{cond}
 use mathlib.Core.List.{List, [], _∷_}

@@ -1,4 +1,4 @@
--- What stays true of the lent memory (demand 3), for any room, words, floats and list of calls of `split_line_edge`, accepted or refused. Assumes nothing.
+-- What stays true of the lent memory (demand 3), for any room, words, floats and list of splits, accepted or refused, whoever asks. Assumes nothing.
 use Prim.Native.Nat.{ℕ, suc, _<_}
 use mathlib.Core.Logic.{_↔_}
 use mathlib.Core.Path.{_≡_, ap, _∙_, subst}

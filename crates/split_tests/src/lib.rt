@@ -1,4 +1,4 @@
-// For callers: `split_refusal`, why an edge is not split. The thirteen tests of euler.rs's `split_line_edge`, in 01's order, before anything is written.
+// For callers: `split_refusal`, why an edge is not split for an office (W-206). The thirteen tests of euler.rs's `split_line_edge`, in 01's order, before anything is written.
 // Inner: the rows of tests, which ask for what `readable` has tested.
 use memory_layout::names::EDGE_FINS;
 use memory_layout::names::EDGES;
@@ -9,6 +9,7 @@ use split_bounds::bounds_refusal;
 use split_bounds::ends::segment_at;
 use split_fin_tests::fins::fins_refusal;
 use split_fins::pcurves_refusal;
+use split_foreign::edge_for;
 use split_place::cut_of;
 use split_place::edge_tolerance;
 use split_place::fraction_ok;
@@ -21,7 +22,7 @@ ghost use mathlib.Core.Path.{_≡_};
 ghost use Rattle.meaning.specs.Split.{splitRefusal};
 ghost use Rattle.memory_layout.specs.Decode.{decode};
 ghost use Rattle.memory_layout.specs.Fit.{Fit};
-ghost use Rattle.split_place.specs.SplitNumber.{limits, edgeRow, placeRow, roomRow, splitNumber};
+ghost use Rattle.split_place.specs.SplitNumber.{limits, edgeRow, placeRow, roomRow, officeSplitNumber};
 
 // Tests 1 to 8.
 fn edge_refusal(room: &[usize; 10], words: &[u32], reals: &[f64], edge: usize, fraction: f64) -> u32
@@ -92,18 +93,23 @@ fn tests_refusal(
     room_refusal(room, words, reals, edge, fraction)
 }
 
-// 9, then the thirteen tests: the refusal's number, or 0.
+// 9, then 1 for an office above 1, then the thirteen tests of what the edge is for the office: the refusal's number, or 0.
 pub fn split_refusal(
     room: &[usize; 10],
     words: &[u32],
     reals: &[f64],
+    office: u32,
     edge: usize,
     fraction: f64,
 ) -> u32
-    ensures { λ r. ⌜ r ≡ splitNumber (now (room .entry)) (now (words .entry)) (now (reals .entry)) edge fraction ⌝ }
+    ensures { λ r. ⌜ r ≡ officeSplitNumber (now (room .entry)) (now (words .entry)) (now (reals .entry)) office edge fraction ⌝ }
 {
     if !readable(room, words, reals) {
         return 9;
     }
-    tests_refusal(room, words, reals, edge, fraction)
+    if 1 < office {
+        return 1;
+    }
+    let own = edge_for(room, words, office, edge);
+    tests_refusal(room, words, reals, own, fraction)
 }

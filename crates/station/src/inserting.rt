@@ -7,22 +7,23 @@ ghost use Rattle.memory_layout.specs.Layout.{word};
 ghost use Rattle.memory_writes.specs.Put.{unlessRefused};
 ghost use Rattle.edit_core.specs.Answers.{insertNumber, insertWords, insertReals};
 ghost use Rattle.c_lent.specs.Lent.{was, lent};
-ghost use Rattle.c_values.specs.Given.{bodyKnown, regionKnown, faceKnown, finKnown, carrierKnown, edgeGood, vertexGood, bodyGiven, regionGiven, shellGiven, faceGiven, loopGiven, finGiven, edgeGiven, vertexGiven, carrierGiven, edgeOwn, vertexOwn, carrierOwn};
+ghost use Rattle.c_values.specs.Given.{bodyIn, regionKnown, faceKnown, finKnown, carrierKnown, edgeGood, vertexGood, bodyGiven, regionGiven, shellGiven, faceGiven, loopGiven, finGiven, edgeGiven, vertexGiven, carrierGiven, edgeOwn, vertexOwn, carrierOwn};
 
 #[no_mangle]
 pub extern "C" fn brunskerl_insert_body(
     room: &[usize; 10],
     words: &mut [u32],
     reals: &mut [f64],
+    office: u32,
     value: &[u32; 1],
     id: &mut [u32; 1],
 ) -> u32
-    ensures answer { λ r. ⌜ r ≡ lent insertNumber room words reals (bodyKnown (was value)) BODIES ⌝ }
+    ensures answer { λ r. ⌜ r ≡ lent insertNumber room words reals (bodyIn office (was value)) BODIES ⌝ }
     ensures slots { λ r. ⌜ now (id .exit) ≡ unlessRefused r (word (was words) BODIES ∷ []) (was id) ⌝ }
-    ensures tables { λ _. ⌜ now (words .exit) ≡ lent insertWords room words reals (bodyKnown (was value)) BODIES (bodyGiven (was value)) ⌝ }
-    ensures floats { λ _. ⌜ now (reals .exit) ≡ lent insertReals room words reals (bodyKnown (was value)) BODIES [] ⌝ }
+    ensures tables { λ _. ⌜ now (words .exit) ≡ lent insertWords room words reals (bodyIn office (was value)) BODIES (bodyGiven office (was value)) ⌝ }
+    ensures floats { λ _. ⌜ now (reals .exit) ≡ lent insertReals room words reals (bodyIn office (was value)) BODIES [] ⌝ }
 {
-    c_inserts::body(room, words, reals, value, id)
+    c_inserts::body(room, words, reals, office, value, id)
 }
 
 #[no_mangle]

@@ -6,6 +6,9 @@ ghost use Rattle.geom_lines_planes.specs.Refuse.{_unless_, _then_};
 ghost use Rattle.meaning.specs.Model.{has};
 ghost use Rattle.memory_layout.specs.Readable.{readable};
 ghost use Rattle.memory_contains.specs.Answers.{contained};
+ghost use Rattle.meaning.specs.Offices.{bodyFor};
+ghost use Rattle.memory_offices.specs.Sight.{byOffice};
+ghost use Rattle.office_bodies.specs.Answers.{entityFor, officeBodyNumber};
 ghost use Rattle.memory_writes.specs.Put.{unlessRefused};
 ghost use Rattle.memory_records.specs.Seen.{seenBody, seenRegion, seenShell, seenFace, seenLoop, seenFin, seenEdge, seenVertex};
 ghost use Rattle.edit_tags.specs.Tags.{mark};
@@ -19,13 +22,14 @@ pub extern "C" fn brunskerl_body(
     room: &[usize; 10],
     words: &[u32],
     reals: &[f64],
+    office: u32,
     id: usize,
     value: &mut [u32; 2],
 ) -> u32
-    ensures answer { λ r. ⌜ r ≡ 9 unless lent readable room words reals then 2 unless has (held room words reals .bodies) id ⌝ }
-    ensures slots { λ r. ⌜ now (value .exit) ≡ unlessRefused r (bodyValue (seenBody (held room words reals .bodies .slot id))) (was value) ⌝ }
+    ensures answer { λ r. ⌜ r ≡ lent officeBodyNumber room words reals office id ⌝ }
+    ensures slots { λ r. ⌜ now (value .exit) ≡ unlessRefused r (bodyValue (seenBody (held room words reals .bodies .slot (bodyFor (held room words reals) office id)))) (was value) ⌝ }
 {
-    c_lookups::body(room, words, reals, id, value)
+    c_lookups::body(room, words, reals, office, id, value)
 }
 
 #[no_mangle]
@@ -168,12 +172,13 @@ pub extern "C" fn brunskerl_contains(
     room: &[usize; 10],
     words: &[u32],
     reals: &[f64],
+    office: u32,
     class: u32,
     id: usize,
     value: &mut [u32; 1],
 ) -> u32
-    ensures answer { λ r. ⌜ r ≡ 9 unless lent readable room words reals then 1 unless ltb class 8 ⌝ }
-    ensures slots { λ r. ⌜ now (value .exit) ≡ unlessRefused r (mark (contained (held room words reals) (entityOf class id)) ∷ []) (was value) ⌝ }
+    ensures answer { λ r. ⌜ r ≡ lent byOffice room words reals office (1 unless ltb class 8) ⌝ }
+    ensures slots { λ r. ⌜ now (value .exit) ≡ unlessRefused r (mark (contained (held room words reals) (entityFor (held room words reals) office (entityOf class id))) ∷ []) (was value) ⌝ }
 {
-    c_queries::contains(room, words, reals, class, id, value)
+    c_queries::contains(room, words, reals, office, class, id, value)
 }

@@ -6,11 +6,11 @@ ghost use Rattle.meaning.specs.Faults.{sawing};
 ghost use Rattle.memory_layout.specs.Names.{EDGES, VERTICES};
 ghost use Rattle.memory_layout.specs.Layout.{word};
 ghost use Rattle.memory_writes.specs.Put.{unlessRefused};
-ghost use Rattle.check_report.specs.Calls.{asked, checkNumber, checkWords};
-ghost use Rattle.inquire_box.specs.Answers.{boxNumber};
-ghost use Rattle.inquire_volume.specs.Answers.{volumeNumber};
-ghost use Rattle.split_place.specs.SplitNumber.{splitNumber};
-ghost use Rattle.split_edge.specs.After.{splitWords, splitReals};
+ghost use Rattle.meaning.specs.Offices.{bodyFor};
+ghost use Rattle.check_report.specs.Calls.{asked};
+ghost use Rattle.office_measures.specs.Answers.{officeBoxNumber, officeVolumeNumber, officeCheckNumber, officeFaults};
+ghost use Rattle.split_place.specs.SplitNumber.{officeSplitNumber};
+ghost use Rattle.split_edge.specs.After.{officeSplitWords, officeSplitReals};
 ghost use Rattle.c_lent.specs.Lent.{was, lent, held};
 ghost use Rattle.c_answers.specs.Values.{wanted};
 ghost use Rattle.c_measures.specs.Measures.{boxValue, volumeValue, reportValue, fitValue};
@@ -21,19 +21,30 @@ pub extern "C" fn brunskerl_body_bounding_box(
     room: &[usize; 10],
     words: &[u32],
     reals: &[f64],
+    office: u32,
     body: usize,
     faces: &mut [u8],
     edges: &mut [u8],
     vertices: &mut [u8],
     value: &mut [f64; 6],
 ) -> u32
-    ensures answer { λ r. ⌜ r ≡ lent boxNumber room words reals body (was faces) (was edges) (was vertices) ⌝ }
-    ensures slots { λ r. ⌜ now (value .exit) ≡ unlessRefused r (boxValue (held room words reals) body) (was value) ⌝ }
+    ensures answer { λ r. ⌜ r ≡ lent officeBoxNumber room words reals office body (was faces) (was edges) (was vertices) ⌝ }
+    ensures slots { λ r. ⌜ now (value .exit) ≡ unlessRefused r (boxValue (held room words reals) (bodyFor (held room words reals) office body)) (was value) ⌝ }
     ensures faces { λ _. ⌜ now (faces .exit) ≡ replicate (length (was faces)) 0 ⌝ }
     ensures edges { λ _. ⌜ now (edges .exit) ≡ replicate (length (was edges)) 0 ⌝ }
     ensures vertices { λ _. ⌜ now (vertices .exit) ≡ replicate (length (was vertices)) 0 ⌝ }
 {
-    c_measures::box_of(room, words, reals, body, faces, edges, vertices, value)
+    c_measures::box_of(
+        room,
+        words,
+        reals,
+        office,
+        body,
+        faces,
+        edges,
+        vertices,
+        value,
+    )
 }
 
 // The volume of a body; `faces` are seen marks.
@@ -42,15 +53,16 @@ pub extern "C" fn brunskerl_body_volume(
     room: &[usize; 10],
     words: &[u32],
     reals: &[f64],
+    office: u32,
     body: usize,
     faces: &mut [u8],
     value: &mut [f64; 1],
 ) -> u32
-    ensures answer { λ r. ⌜ r ≡ lent volumeNumber room words reals body (was faces) ⌝ }
-    ensures slots { λ r. ⌜ now (value .exit) ≡ unlessRefused r (volumeValue (held room words reals) body) (was value) ⌝ }
+    ensures answer { λ r. ⌜ r ≡ lent officeVolumeNumber room words reals office body (was faces) ⌝ }
+    ensures slots { λ r. ⌜ now (value .exit) ≡ unlessRefused r (volumeValue (held room words reals) (bodyFor (held room words reals) office body)) (was value) ⌝ }
     ensures faces { λ _. ⌜ now (faces .exit) ≡ replicate (length (was faces)) 0 ⌝ }
 {
-    c_measures::volume_of(room, words, reals, body, faces, value)
+    c_measures::volume_of(room, words, reals, office, body, faces, value)
 }
 
 // Splits an edge at a fraction of its range: it, the new edge and the new vertex.
@@ -59,16 +71,17 @@ pub extern "C" fn brunskerl_split_line_edge(
     room: &[usize; 10],
     words: &mut [u32],
     reals: &mut [f64],
+    office: u32,
     edge: usize,
     fraction: f64,
     value: &mut [u32; 3],
 ) -> u32
-    ensures answer { λ r. ⌜ r ≡ lent splitNumber room words reals edge fraction ⌝ }
+    ensures answer { λ r. ⌜ r ≡ lent officeSplitNumber room words reals office edge fraction ⌝ }
     ensures slots { λ r. ⌜ now (value .exit) ≡ unlessRefused r (edge ∷ word (was words) EDGES ∷ word (was words) VERTICES ∷ []) (was value) ⌝ }
-    ensures tables { λ _. ⌜ now (words .exit) ≡ lent splitWords room words reals edge fraction ⌝ }
-    ensures floats { λ _. ⌜ now (reals .exit) ≡ lent splitReals room words reals edge fraction ⌝ }
+    ensures tables { λ _. ⌜ now (words .exit) ≡ lent officeSplitWords room words reals office edge fraction ⌝ }
+    ensures floats { λ _. ⌜ now (reals .exit) ≡ lent officeSplitReals room words reals office edge fraction ⌝ }
 {
-    c_measures::split_of(room, words, reals, edge, fraction, value)
+    c_measures::split_of(room, words, reals, office, edge, fraction, value)
 }
 
 // Checks a body, with geometry where that number is not 0, and so many samples to an edge: how many faults there are, how many were kept, how many checks
@@ -78,6 +91,7 @@ pub extern "C" fn brunskerl_check_body(
     room: &[usize; 10],
     words: &[u32],
     reals: &[f64],
+    office: u32,
     body: usize,
     geometry: u32,
     samples: usize,
@@ -86,9 +100,9 @@ pub extern "C" fn brunskerl_check_body(
     list: &mut [u32],
     value: &mut [usize; 3],
 ) -> u32
-    ensures answer { λ r. ⌜ r ≡ lent checkNumber room words reals body (asked (wanted geometry) samples) (was faces) (was edges) ⌝ }
-    ensures slots { λ r. ⌜ now (value .exit) ≡ unlessRefused r (lent reportValue room words reals body (asked (wanted geometry) samples) (was list)) (was value) ⌝ }
-    ensures list { λ _. ⌜ now (list .exit) ≡ lent checkWords room words reals body (asked (wanted geometry) samples) (was faces) (was edges) (was list) ⌝ }
+    ensures answer { λ r. ⌜ r ≡ lent officeCheckNumber room words reals office body (asked (wanted geometry) samples) (was faces) (was edges) ⌝ }
+    ensures slots { λ r. ⌜ now (value .exit) ≡ unlessRefused r (lent reportValue room words reals (bodyFor (held room words reals) office body) (asked (wanted geometry) samples) (was list)) (was value) ⌝ }
+    ensures list { λ _. ⌜ now (list .exit) ≡ lent officeFaults room words reals office body (asked (wanted geometry) samples) (was faces) (was edges) (was list) ⌝ }
     ensures faces { λ _. ⌜ now (faces .exit) ≡ replicate (length (was faces)) 0 ⌝ }
     ensures edges { λ _. ⌜ now (edges .exit) ≡ replicate (length (was edges)) 0 ⌝ }
 {
@@ -96,6 +110,7 @@ pub extern "C" fn brunskerl_check_body(
         room,
         words,
         reals,
+        office,
         body,
         geometry,
         samples,
@@ -112,15 +127,16 @@ pub extern "C" fn brunskerl_fit_to_saw(
     room: &[usize; 10],
     words: &[u32],
     reals: &[f64],
+    office: u32,
     body: usize,
     faces: &mut [u8],
     edges: &mut [u8],
     value: &mut [u32; 1],
 ) -> u32
-    ensures answer { λ r. ⌜ r ≡ lent checkNumber room words reals body sawing (was faces) (was edges) ⌝ }
-    ensures slots { λ r. ⌜ now (value .exit) ≡ unlessRefused r (fitValue (held room words reals) body) (was value) ⌝ }
+    ensures answer { λ r. ⌜ r ≡ lent officeCheckNumber room words reals office body sawing (was faces) (was edges) ⌝ }
+    ensures slots { λ r. ⌜ now (value .exit) ≡ unlessRefused r (fitValue (held room words reals) (bodyFor (held room words reals) office body)) (was value) ⌝ }
     ensures faces { λ _. ⌜ now (faces .exit) ≡ replicate (length (was faces)) 0 ⌝ }
     ensures edges { λ _. ⌜ now (edges .exit) ≡ replicate (length (was edges)) 0 ⌝ }
 {
-    c_measures::fit_of(room, words, reals, body, faces, edges, value)
+    c_measures::fit_of(room, words, reals, office, body, faces, edges, value)
 }

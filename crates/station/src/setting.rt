@@ -3,8 +3,9 @@ ghost use mathlib.Core.Path.{_≡_};
 ghost use mathlib.Core.Bool.{true};
 ghost use mathlib.Core.List.{[], _∷_};
 ghost use Rattle.edit_core.specs.Answers.{editNumber, editWords, editReals};
-ghost use Rattle.c_lent.specs.Lent.{was, lent};
-ghost use Rattle.c_values.specs.Given.{bodyKnown, regionKnown, faceKnown, finKnown, carrierKnown, edgeGood, vertexGood, bodyGiven, regionGiven, shellGiven, faceGiven, loopGiven, finGiven, edgeGiven, vertexGiven, carrierGiven, edgeOwn, vertexOwn, carrierOwn};
+ghost use Rattle.meaning.specs.Offices.{bodyFor};
+ghost use Rattle.c_lent.specs.Lent.{was, lent, held};
+ghost use Rattle.c_values.specs.Given.{bodyIn, regionKnown, faceKnown, finKnown, carrierKnown, edgeGood, vertexGood, kindGiven, regionGiven, shellGiven, faceGiven, loopGiven, finGiven, edgeGiven, vertexGiven, carrierGiven, edgeOwn, vertexOwn, carrierOwn};
 ghost use Rattle.edit_tags.specs.Tags.{mark};
 ghost use Rattle.memory_layout.specs.Names.{BODIES, REGIONS, SHELLS, FACES, LOOPS, FINS, EDGES, VERTICES, CURVES, SURFACES, AT-FIN-PCURVE};
 
@@ -13,14 +14,15 @@ pub extern "C" fn brunskerl_set_body(
     room: &[usize; 10],
     words: &mut [u32],
     reals: &mut [f64],
+    office: u32,
     id: usize,
     value: &[u32; 1],
 ) -> u32
-    ensures answer { λ r. ⌜ r ≡ lent editNumber room words reals (bodyKnown (was value)) BODIES id ⌝ }
-    ensures tables { λ _. ⌜ now (words .exit) ≡ lent editWords room words reals (bodyKnown (was value)) BODIES id 0 (bodyGiven (was value)) ⌝ }
-    ensures floats { λ _. ⌜ now (reals .exit) ≡ lent editReals room words reals (bodyKnown (was value)) BODIES id [] ⌝ }
+    ensures answer { λ r. ⌜ r ≡ lent editNumber room words reals (bodyIn office (was value)) BODIES (bodyFor (held room words reals) office id) ⌝ }
+    ensures tables { λ _. ⌜ now (words .exit) ≡ lent editWords room words reals (bodyIn office (was value)) BODIES (bodyFor (held room words reals) office id) 0 (kindGiven (was value)) ⌝ }
+    ensures floats { λ _. ⌜ now (reals .exit) ≡ lent editReals room words reals (bodyIn office (was value)) BODIES (bodyFor (held room words reals) office id) [] ⌝ }
 {
-    c_sets::body(room, words, reals, id, value)
+    c_sets::body(room, words, reals, office, id, value)
 }
 
 #[no_mangle]

@@ -16,19 +16,20 @@ use memory_layout::names::VERSION;
 use memory_layout::names::VERTICES;
 use split_edge::split_line_edge;
 use station_answers::Split;
+use trial_inserts::OFFICE;
 use trial_inserts::ROOM;
 use trial_inserts::trial_stone;
 
 // Whether A was split at 0.25.
-fn cut(words: &mut [u32; 8378], reals: &mut [f64; 158]) -> bool {
-    match split_line_edge(&ROOM, &mut words[..], &mut reals[..], 0, 0.25) {
+fn cut(words: &mut [u32; 8379], reals: &mut [f64; 158]) -> bool {
+    match split_line_edge(&ROOM, &mut words[..], &mut reals[..], OFFICE, 0, 0.25) {
         Split::Is(_) => true,
         Split::Refused(_) => false,
     }
 }
 
 // The image, and how long it is; 0 where it is refused.
-fn save(words: &[u32; 8378], reals: &[f64; 158], bytes: &mut [u8; 4096]) -> usize {
+fn save(words: &[u32; 8379], reals: &[f64; 158], bytes: &mut [u8; 4096]) -> usize {
     match write_image(&ROOM, &words[..], &reals[..], &mut bytes[..]) {
         Length::Is(n) => n,
         Length::Refused(_) => 0,
@@ -36,14 +37,14 @@ fn save(words: &[u32; 8378], reals: &[f64; 158], bytes: &mut [u8; 4096]) -> usiz
 }
 
 // The model of the first n bytes.
-fn front(words: &mut [u32; 8378], reals: &mut [f64; 158], bytes: &[u8], n: usize) -> bool {
+fn front(words: &mut [u32; 8379], reals: &mut [f64; 158], bytes: &[u8], n: usize) -> bool {
     if bytes.len() < n {
         return false;
     }
     read_image(&ROOM, &mut words[..], &mut reals[..], &bytes[..n]) == 0
 }
 
-fn load(words: &mut [u32; 8378], reals: &mut [f64; 158], bytes: &[u8; 4096], n: usize) -> bool {
+fn load(words: &mut [u32; 8379], reals: &mut [f64; 158], bytes: &[u8; 4096], n: usize) -> bool {
     front(words, reals, &bytes[..], n)
 }
 
@@ -57,7 +58,7 @@ fn print_count(n: u32) {
 }
 
 // The used counts, and the version.
-fn print_counts(words: &[u32; 8378]) {
+fn print_counts(words: &[u32; 8379]) {
     print_word(words[BODIES]);
     print_count(words[REGIONS]);
     print_count(words[SHELLS]);
@@ -88,11 +89,11 @@ fn print_number(n: usize) {
 }
 
 // The image written, read over memory that held other things, and written again: whether it is the same.
-fn night(words: &[u32; 8378], reals: &[f64; 158]) -> bool {
+fn night(words: &[u32; 8379], reals: &[f64; 158]) -> bool {
     let mut bytes = [0u8; 4096];
     let n = save(words, reals, &mut bytes);
     print_number(n);
-    let mut others = [7u32; 8378];
+    let mut others = [7u32; 8379];
     let mut floats = [7.0; 158];
     let read = load(&mut others, &mut floats, &bytes, n);
     print_counts(&others);
@@ -102,7 +103,7 @@ fn night(words: &[u32; 8378], reals: &[f64; 158]) -> bool {
 }
 
 fn main() {
-    let mut words = [0u32; 8378];
+    let mut words = [0u32; 8379];
     let mut reals = [0.0; 158];
     let built = trial_stone(&ROOM, &mut words, &mut reals);
     let split = cut(&mut words, &mut reals);

@@ -13,7 +13,6 @@ use edit_inserts::insert_region;
 use edit_inserts::insert_shell;
 use edit_inserts::insert_surface;
 use edit_inserts::insert_vertex;
-use edit_lists::append_entry;
 use edit_make::make;
 use float_vectors::vector::Point3;
 use float_vectors::vector::Vec3;
@@ -30,9 +29,13 @@ use memory_layout::names::SHELL_FACES;
 use memory_records::records::BodyKind;
 use memory_records::records::Ref;
 use memory_records::records::sense_of;
+use office_bodies::append_entry;
 
 // Its capacities leave room for one split.
 pub const ROOM: [usize; 10] = [1, 2, 2, 6, 6, 26, 13, 9, 12, 6];
+
+// The drawing office whose stone it is.
+pub const OFFICE: u32 = 0;
 
 // Corner i has x = 4 where i has bit 0, y = 3 for bit 1, z = 2 for bit 2.
 const CORNERS: [Point3; 8] = [
@@ -201,18 +204,25 @@ fn stands(answer: Inserted) -> bool {
 }
 
 // The body, its void and its solid region, each with its shell.
-fn put_body(room: &[usize; 10], words: &mut [u32; 8378], reals: &mut [f64; 158]) -> bool {
-    let mut ok = stands(insert_body(room, &mut words[..], &mut reals[..], BodyKind::Solid));
+fn put_body(room: &[usize; 10], words: &mut [u32; 8379], reals: &mut [f64; 158]) -> bool {
+    let mut ok = stands(insert_body(
+        room,
+        &mut words[..],
+        &mut reals[..],
+        OFFICE,
+        BodyKind::Solid,
+    ));
     let mut i = 0u32;
     while i < 2 {
         ok = ok & stands(insert_region(room, &mut words[..], &mut reals[..], 0, i == 1));
         ok = ok & stands(insert_shell(room, &mut words[..], &mut reals[..], i));
-        ok = ok & (append_entry(room, &mut words[..], &reals[..], BODY_REGIONS, 0, i) == 0);
+        ok = ok & (append_entry(room, &mut words[..], &reals[..], OFFICE, BODY_REGIONS, 0, i) == 0);
         ok = ok
             & (append_entry(
                 room,
                 &mut words[..],
                 &reals[..],
+                OFFICE,
                 REGION_SHELLS,
                 i as usize,
                 i,
@@ -223,7 +233,7 @@ fn put_body(room: &[usize; 10], words: &mut [u32; 8378], reals: &mut [f64; 158])
     ok
 }
 
-fn put_vertices(room: &[usize; 10], words: &mut [u32; 8378], reals: &mut [f64; 158]) -> bool {
+fn put_vertices(room: &[usize; 10], words: &mut [u32; 8379], reals: &mut [f64; 158]) -> bool {
     let mut ok = true;
     let mut i = 0;
     while i < 8 {
@@ -241,7 +251,7 @@ fn put_vertices(room: &[usize; 10], words: &mut [u32; 8378], reals: &mut [f64; 1
 }
 
 // The line of edge i.
-fn put_line(room: &[usize; 10], words: &mut [u32; 8378], reals: &mut [f64; 158], i: usize) -> bool {
+fn put_line(room: &[usize; 10], words: &mut [u32; 8379], reals: &mut [f64; 158], i: usize) -> bool {
     if 12 <= i {
         return false;
     }
@@ -253,15 +263,24 @@ fn put_line(room: &[usize; 10], words: &mut [u32; 8378], reals: &mut [f64; 158],
 }
 
 // The two fins of edge i, in its list.
-fn list_fins(room: &[usize; 10], words: &mut [u32; 8378], reals: &[f64; 158], i: usize) -> bool {
+fn list_fins(room: &[usize; 10], words: &mut [u32; 8379], reals: &[f64; 158], i: usize) -> bool {
     if 12 <= i {
         return false;
     }
-    let a = append_entry(room, &mut words[..], &reals[..], EDGE_FINS, i, FINS[2 * i]);
+    let a = append_entry(
+        room,
+        &mut words[..],
+        &reals[..],
+        OFFICE,
+        EDGE_FINS,
+        i,
+        FINS[2 * i],
+    );
     let b = append_entry(
         room,
         &mut words[..],
         &reals[..],
+        OFFICE,
         EDGE_FINS,
         i,
         FINS[2 * i + 1],
@@ -271,7 +290,7 @@ fn list_fins(room: &[usize; 10], words: &mut [u32; 8378], reals: &[f64; 158], i:
 
 fn put_edge(
     room: &[usize; 10],
-    words: &mut [u32; 8378],
+    words: &mut [u32; 8379],
     reals: &mut [f64; 158],
     i: usize,
     curve: u32,
@@ -293,7 +312,7 @@ fn put_edge(
     lies & put & listed
 }
 
-fn put_edges(room: &[usize; 10], words: &mut [u32; 8378], reals: &mut [f64; 158]) -> bool {
+fn put_edges(room: &[usize; 10], words: &mut [u32; 8379], reals: &mut [f64; 158]) -> bool {
     let mut ok = true;
     let mut i = 0u32;
     while i < 12 {
@@ -306,7 +325,7 @@ fn put_edges(room: &[usize; 10], words: &mut [u32; 8378], reals: &mut [f64; 158]
 // The plane of face i.
 fn put_plane(
     room: &[usize; 10],
-    words: &mut [u32; 8378],
+    words: &mut [u32; 8379],
     reals: &mut [f64; 158],
     i: usize,
 ) -> bool {
@@ -323,21 +342,21 @@ fn put_plane(
 // A face in the lists of both shells, and its loop in its own.
 fn list_face(
     room: &[usize; 10],
-    words: &mut [u32; 8378],
+    words: &mut [u32; 8379],
     reals: &[f64; 158],
     i: usize,
     id: u32,
 ) -> bool {
-    let a = append_entry(room, &mut words[..], &reals[..], SHELL_FACES, 0, id);
-    let b = append_entry(room, &mut words[..], &reals[..], SHELL_FACES, 1, id);
-    let c = append_entry(room, &mut words[..], &reals[..], FACE_LOOPS, i, id);
+    let a = append_entry(room, &mut words[..], &reals[..], OFFICE, SHELL_FACES, 0, id);
+    let b = append_entry(room, &mut words[..], &reals[..], OFFICE, SHELL_FACES, 1, id);
+    let c = append_entry(room, &mut words[..], &reals[..], OFFICE, FACE_LOOPS, i, id);
     (a == 0) & (b == 0) & (c == 0)
 }
 
 // A face, of the void's shell in front and the material's behind, and its loop.
 fn put_face(
     room: &[usize; 10],
-    words: &mut [u32; 8378],
+    words: &mut [u32; 8379],
     reals: &mut [f64; 158],
     i: usize,
     id: u32,
@@ -357,7 +376,7 @@ fn put_face(
     lies & face & rim & listed
 }
 
-fn put_faces(room: &[usize; 10], words: &mut [u32; 8378], reals: &mut [f64; 158]) -> bool {
+fn put_faces(room: &[usize; 10], words: &mut [u32; 8379], reals: &mut [f64; 158]) -> bool {
     let mut ok = true;
     let mut i = 0u32;
     while i < 6 {
@@ -367,7 +386,7 @@ fn put_faces(room: &[usize; 10], words: &mut [u32; 8378], reals: &mut [f64; 158]
     ok
 }
 
-fn put_fins(room: &[usize; 10], words: &mut [u32; 8378], reals: &mut [f64; 158]) -> bool {
+fn put_fins(room: &[usize; 10], words: &mut [u32; 8379], reals: &mut [f64; 158]) -> bool {
     let mut ok = true;
     let mut i = 0u32;
     while i < 24 {
@@ -387,6 +406,7 @@ fn put_fins(room: &[usize; 10], words: &mut [u32; 8378], reals: &mut [f64; 158])
                 room,
                 &mut words[..],
                 &reals[..],
+                OFFICE,
                 LOOP_FINS,
                 (i / 4) as usize,
                 i,
@@ -398,7 +418,7 @@ fn put_fins(room: &[usize; 10], words: &mut [u32; 8378], reals: &mut [f64; 158])
 }
 
 // Whether the whole stone stands in the lent memory.
-pub fn trial_stone(room: &[usize; 10], words: &mut [u32; 8378], reals: &mut [f64; 158]) -> bool {
+pub fn trial_stone(room: &[usize; 10], words: &mut [u32; 8379], reals: &mut [f64; 158]) -> bool {
     let made = make(room, &mut words[..], &mut reals[..], 0.001, 1) == 0;
     let body = put_body(room, words, reals);
     let vertices = put_vertices(room, words, reals);

@@ -1,17 +1,20 @@
 // Program: the rows of 01's table 'Trial stone', asked of the code and printed: a float as its bits, a refusal as its number.
 use check_fault_list::Fault;
-use check_report::check_body;
-use check_report::fit_to_saw;
 use edit_lists::strike_entry;
 use float_vectors::vector::Point3;
-use inquire_box::body_bounding_box;
-use inquire_volume::body_volume;
 use interval_arithmetic::Interval;
 use memory_layout::names::BODY_REGIONS;
 use memory_layout::names::LOOP_FINS;
 use memory_layout::names::REGION_SHELLS;
 use memory_lookups::VertexFound;
 use memory_lookups::vertex;
+use office_measures::body_bounding_box;
+use office_measures::body_volume;
+use office_measures::check_body;
+use office_measures::fit_to_saw;
+use office_views::body_edges;
+use office_views::body_faces;
+use office_views::body_vertices;
 use replay_digits::bits_of;
 use split_edge::split_line_edge;
 use station_answers::BoxFound;
@@ -21,11 +24,9 @@ use station_answers::Split;
 use station_answers::Volume;
 use trial_faults::Kept;
 use trial_faults::entries;
+use trial_inserts::OFFICE;
 use trial_inserts::ROOM;
 use trial_inserts::trial_stone;
-use walk_views::body_edges;
-use walk_views::body_faces;
-use walk_views::body_vertices;
 
 fn print_float(x: f64) {
     io::write_all(1, b" ");
@@ -77,7 +78,7 @@ fn faces_into(words: &[u32], reals: &[f64], out: &mut [u32]) {
     io::write_all(1, b"faces, ");
     let mut marks = [0u8; 6];
     let mut code = 0;
-    let part = body_faces(&ROOM, words, reals, 0, &mut marks, out, &mut code);
+    let part = body_faces(&ROOM, words, reals, OFFICE, 0, &mut marks, out, &mut code);
     handed(part, code);
     held(out);
 }
@@ -91,6 +92,7 @@ fn edges_into(words: &[u32], reals: &[f64], out: &mut [u32]) {
         &ROOM,
         words,
         reals,
+        OFFICE,
         0,
         &mut marks,
         &mut seen,
@@ -111,6 +113,7 @@ fn vertices_into(words: &[u32], reals: &[f64], out: &mut [u32]) {
         &ROOM,
         words,
         reals,
+        OFFICE,
         0,
         &mut marks,
         &mut seen,
@@ -123,7 +126,7 @@ fn vertices_into(words: &[u32], reals: &[f64], out: &mut [u32]) {
 }
 
 // The walks into lists that hold 99 at each place: one place more than a walk needs, then one less.
-fn walks(words: &[u32; 8378], reals: &[f64; 158]) {
+fn walks(words: &[u32; 8379], reals: &[f64; 158]) {
     let w = &words[..];
     let x = &reals[..];
     let mut more = [99u32; 7];
@@ -140,10 +143,10 @@ fn walks(words: &[u32; 8378], reals: &[f64; 158]) {
     vertices_into(w, x, &mut less);
 }
 
-fn volume(words: &[u32; 8378], reals: &[f64; 158]) {
+fn volume(words: &[u32; 8379], reals: &[f64; 158]) {
     let mut marks = [0u8; 6];
     io::write_all(1, b"volume:");
-    match body_volume(&ROOM, &words[..], &reals[..], 0, &mut marks) {
+    match body_volume(&ROOM, &words[..], &reals[..], OFFICE, 0, &mut marks) {
         Volume::Is(v) => print_float(v),
         Volume::Refused(n) => print_refusal(n),
     }
@@ -160,7 +163,7 @@ fn print_box(answer: BoxFound) {
     }
 }
 
-fn corners(words: &[u32; 8378], reals: &[f64; 158]) {
+fn corners(words: &[u32; 8379], reals: &[f64; 158]) {
     let mut marks = [0u8; 6];
     let mut seen = [0u8; 13];
     let mut met = [0u8; 9];
@@ -169,6 +172,7 @@ fn corners(words: &[u32; 8378], reals: &[f64; 158]) {
         &ROOM,
         &words[..],
         &reals[..],
+        OFFICE,
         0,
         &mut marks,
         &mut seen,
@@ -177,7 +181,7 @@ fn corners(words: &[u32; 8378], reals: &[f64; 158]) {
     io::write_all(1, b"\n");
 }
 
-fn print_vertex(words: &[u32; 8378], reals: &[f64; 158], id: u32) {
+fn print_vertex(words: &[u32; 8379], reals: &[f64; 158], id: u32) {
     match vertex(&ROOM, &words[..], &reals[..], id as usize) {
         VertexFound::Is(v) => print_point(v.point),
         VertexFound::Refused(n) => print_refusal(n),
@@ -185,12 +189,12 @@ fn print_vertex(words: &[u32; 8378], reals: &[f64; 158], id: u32) {
 }
 
 // The vertex that a split of A made, or the refusal.
-fn cut(words: &mut [u32; 8378], reals: &mut [f64; 158], fraction: f64) -> Split {
-    split_line_edge(&ROOM, &mut words[..], &mut reals[..], 0, fraction)
+fn cut(words: &mut [u32; 8379], reals: &mut [f64; 158], fraction: f64) -> Split {
+    split_line_edge(&ROOM, &mut words[..], &mut reals[..], OFFICE, 0, fraction)
 }
 
 // A of a new stone, split at a fraction: where the new vertex lies.
-fn split_at(words: &mut [u32; 8378], reals: &mut [f64; 158], fraction: f64) {
+fn split_at(words: &mut [u32; 8379], reals: &mut [f64; 158], fraction: f64) {
     trial_stone(&ROOM, words, reals);
     io::write_all(1, b"A at");
     print_float(fraction);
@@ -234,7 +238,7 @@ fn print_report(answer: Checked, list: &[u32; 16]) {
     }
 }
 
-fn report(words: &[u32; 8378], reals: &[f64; 158]) {
+fn report(words: &[u32; 8379], reals: &[f64; 158]) {
     let mut marks = [0u8; 6];
     let mut seen = [0u8; 13];
     let mut list = [0u32; 16];
@@ -242,6 +246,7 @@ fn report(words: &[u32; 8378], reals: &[f64; 158]) {
         &ROOM,
         words,
         reals,
+        OFFICE,
         0,
         false,
         0,
@@ -267,10 +272,18 @@ fn print_verdict(answer: Sawable) {
     }
 }
 
-fn verdict(words: &[u32; 8378], reals: &[f64; 158]) {
+fn verdict(words: &[u32; 8379], reals: &[f64; 158]) {
     let mut marks = [0u8; 6];
     let mut seen = [0u8; 13];
-    print_verdict(fit_to_saw(&ROOM, &words[..], &reals[..], 0, &mut marks, &mut seen));
+    print_verdict(fit_to_saw(
+        &ROOM,
+        &words[..],
+        &reals[..],
+        OFFICE,
+        0,
+        &mut marks,
+        &mut seen,
+    ));
     io::write_all(1, b"\n");
 }
 
@@ -282,7 +295,7 @@ fn sum() {
     io::write_all(1, b"\n");
 }
 
-fn splits(words: &mut [u32; 8378], reals: &mut [f64; 158]) {
+fn splits(words: &mut [u32; 8379], reals: &mut [f64; 158]) {
     split_at(words, reals, 0.25);
     split_at(words, reals, 0.0);
     split_at(words, reals, 1.0);
@@ -292,12 +305,12 @@ fn splits(words: &mut [u32; 8378], reals: &mut [f64; 158]) {
 }
 
 // Strikes an entry out of a list.
-fn strike(words: &mut [u32; 8378], reals: &[f64; 158], j: usize, i: usize, place: usize) {
+fn strike(words: &mut [u32; 8379], reals: &[f64; 158], j: usize, i: usize, place: usize) {
     strike_entry(&ROOM, &mut words[..], &reals[..], j, i, place);
 }
 
 fn main() {
-    let mut words = [0u32; 8378];
+    let mut words = [0u32; 8379];
     let mut reals = [0.0; 158];
     trial_stone(&ROOM, &mut words, &mut reals);
     walks(&words, &reals);

@@ -1,12 +1,13 @@
 // What there is of the trial stone, by the calls.
-use check_report::check_body;
 use memory_lookups::EdgeFound;
 use memory_lookups::edge;
+use office_measures::check_body;
+use office_views::body_edges;
+use office_views::body_faces;
+use office_views::body_vertices;
 use station_answers::Checked;
+use trial_inserts::OFFICE;
 use trial_inserts::ROOM;
-use walk_views::body_edges;
-use walk_views::body_faces;
-use walk_views::body_vertices;
 
 // A refused call counts as more than the stone has of anything.
 const REFUSED: u64 = 1000;
@@ -23,7 +24,16 @@ pub fn faces(words: &[u32], reals: &[f64]) -> u64 {
     let mut marks = [0u8; 6];
     let mut out = [0u32; 6];
     let mut code = 0;
-    let part = body_faces(&ROOM, words, reals, 0, &mut marks, &mut out, &mut code);
+    let part = body_faces(
+        &ROOM,
+        words,
+        reals,
+        OFFICE,
+        0,
+        &mut marks,
+        &mut out,
+        &mut code,
+    );
     counted(part.len(), code)
 }
 
@@ -36,6 +46,7 @@ pub fn edges(words: &[u32], reals: &[f64]) -> u64 {
         &ROOM,
         words,
         reals,
+        OFFICE,
         0,
         &mut marks,
         &mut seen,
@@ -55,6 +66,7 @@ pub fn vertices(words: &[u32], reals: &[f64]) -> u64 {
         &ROOM,
         words,
         reals,
+        OFFICE,
         0,
         &mut marks,
         &mut seen,
@@ -93,6 +105,7 @@ pub fn faults(words: &[u32], reals: &[f64]) -> u64 {
         &ROOM,
         words,
         reals,
+        OFFICE,
         0,
         false,
         0,

@@ -9,10 +9,11 @@ use crate::census::fins;
 use crate::census::vertices;
 use split_edge::split_line_edge;
 use station_answers::Split;
+use trial_inserts::OFFICE;
 use trial_inserts::ROOM;
 use trial_inserts::trial_stone;
 
-fn line(words: &[u32; 8378], reals: &[f64; 158]) {
+fn line(words: &[u32; 8379], reals: &[f64; 158]) {
     let w = &words[..];
     let x = &reals[..];
     io::print_decimal(1, faces(w, x));
@@ -28,15 +29,15 @@ fn line(words: &[u32; 8378], reals: &[f64; 158]) {
 }
 
 // Whether A was split at 0.25.
-fn cut(words: &mut [u32; 8378], reals: &mut [f64; 158]) -> bool {
-    match split_line_edge(&ROOM, &mut words[..], &mut reals[..], 0, 0.25) {
+fn cut(words: &mut [u32; 8379], reals: &mut [f64; 158]) -> bool {
+    match split_line_edge(&ROOM, &mut words[..], &mut reals[..], OFFICE, 0, 0.25) {
         Split::Is(_) => true,
         Split::Refused(_) => false,
     }
 }
 
 fn main() {
-    let mut words = [0u32; 8378];
+    let mut words = [0u32; 8379];
     let mut reals = [0.0; 158];
     let built = trial_stone(&ROOM, &mut words, &mut reals);
     line(&words, &reals);

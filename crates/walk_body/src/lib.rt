@@ -1,6 +1,5 @@
-// For callers: the three walks of a body (model.rs). specs/Calls.antt of crate `walk_answers` says which number and which list they give. Each has two forms:
-// `write_..` fills the front of the caller's list and returns how many ids it put there, and its promise tells of the whole list; the
-// form without `write` (crate `walk_views`) returns that front part.
+// Inner: the three walks of a body (model.rs), whatever its office; callers ask `office_walks`. specs/Calls.antt of crate `walk_answers` says which number and which list they give.
+// Each fills the front of the caller's list and returns how many ids it put there, and its promise tells of the whole list.
 use memory_layout::names::EDGES;
 use memory_layout::names::FACES;
 use memory_layout::names::VERTICES;

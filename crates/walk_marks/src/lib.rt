@@ -1,6 +1,6 @@
 // Inner: lent seen marks, and lists of ids in lent slices, what the walks do with one of them (HashSet and `push_unique` of model.rs).
 //
-// The family walk_: the faces, edges and vertices of a body, and the ends of a fin. Call walk_body or walk_views, and walk_fin_ends. Read walk_marks,
+// The family walk_: the faces, edges and vertices of a body, and the ends of a fin. Call walk_fin_ends; the walks are asked by an office (office_walks). Read walk_marks,
 // walk_sources, walk_visits, walk_paths, of which a walk is made; walk_answers says what is given, walk_refusals what is refused.
 ghost use mathlib.Core.Path.{_≡_};
 ghost use Prim.Native.Nat.{_+_, _≤_};

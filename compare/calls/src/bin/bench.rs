@@ -75,12 +75,28 @@ fn larger(model: &Model, names: &Names, lent: &Lent) {
         let rust = on_a_copy(model, |model| {
             (0..edges).for_each(|e| drop(black_box(split_line_edge(model, names.edges[e], 0.5))));
         });
-        let ours = on_a_copy(lent, |lent| {
-            for e in 0..edges {
-                black_box(lent.split_alone(e, 0.5));
+        let ours = |lent: &Lent| {
+            on_a_copy(lent, |lent| {
+                for e in 0..edges {
+                    black_box(lent.split_alone(e, 0.5));
+                }
+            })
+        };
+        row("split", rust / edges as u32, ours(lent) / edges as u32);
+        // The second half of the bodies are the other office's, and each split walks them; the edges are of the first half.
+        let bodies = lent.words[0] as usize;
+        if bodies > 1 {
+            let mut lent = lent.clone();
+            for body in bodies / 2..bodies {
+                let at = lent.word_at(0, body) + 1;
+                lent.words[at] = 1;
             }
-        });
-        row("split", rust / edges as u32, ours / edges as u32);
+            row(
+                "split, two offices",
+                rust / edges as u32,
+                ours(&lent) / edges as u32,
+            );
+        }
     }
 }
 

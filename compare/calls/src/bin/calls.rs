@@ -47,6 +47,11 @@ impl Station<'_> {
     }
 }
 
+/// The precision, and the office of all bodies.
+fn asked_for(plain: &Plain) -> (f64, u32) {
+    (plain.precision, plain.bodies.first().map_or(0, |r| r.office))
+}
+
 /// Capacities for a model: at times just what it has, at times a few more, rarely the largest.
 fn room(plain: &Plain, random: &mut Random) -> [usize; 10] {
     let used = plain.used();
@@ -57,9 +62,16 @@ fn room(plain: &Plain, random: &mut Random) -> [usize; 10] {
     std::array::from_fn(|k| (used[k] + random.below(spare)).min(LARGEST[k]))
 }
 
-/// Making an empty model of the version that is asked about, whatever the memory holds, and a precision and versions that are none.
-fn empty(tally: &mut Tally, precision: f64, room: [usize; 10], random: &mut Random, station: Station) -> Lent {
+/// Making an empty model of the version that is asked about, to be filled by an office, whatever the memory holds, and a precision and versions that are none.
+fn empty(
+    tally: &mut Tally,
+    (precision, office): (f64, u32),
+    room: [usize; 10],
+    random: &mut Random,
+    station: Station,
+) -> Lent {
     let mut lent = Lent::new(room, random.bits() as u32, f64::from_bits(random.bits()));
+    lent.office = office;
     let before = lent.clone();
     let bad = random.pick(&[0.0, -0.0, -1.0, f64::NAN, f64::INFINITY]);
     let version = original::version() as u32;
@@ -92,6 +104,7 @@ fn built(
     random: &mut Random,
     station: Station,
 ) {
+    let offices = made.plain.offices();
     let mut model = Model::new(*made.model.precision());
     for operation in sequence(&made.plain, random) {
         let rust = operation.original(&mut model, names, &made.model);
@@ -99,10 +112,10 @@ fn built(
         tally.met(operation.name(), rust);
         tally.same("operations", &rust, &ours, || format!("{operation:?}"));
         if random.one_in(400) {
-            records(tally, &original::read(&model, names), lent);
+            records(tally, &original::read(&model, names).of(&offices), lent);
         }
     }
-    let rust = original::read(&model, names);
+    let rust = original::read(&model, names).of(&offices);
     assert_eq!(
         rust.numbers(),
         made.plain.numbers(),
@@ -383,7 +396,7 @@ fn operated(tally: &mut Tally, names: &Names, [seed, number]: [u64; 2], station:
             };
             if let Some(made) = made {
                 let room = made.plain.used().map(|n| n + 1);
-                let mut lent = empty(tally, made.plain.precision, room, &mut random, station);
+                let mut lent = empty(tally, asked_for(&made.plain), room, &mut random, station);
                 built(tally, names, &made, &mut lent, &mut random, station);
             }
         });
@@ -480,7 +493,7 @@ fn questions(count: u64, seed: u64) -> ExitCode {
 fn whole(tally: &mut Tally, names: &Names, made: &Made, random: &mut Random) {
     let plain = &made.plain;
     let room = room(plain, random);
-    let mut lent = empty(tally, plain.precision, room, random, Station::Right);
+    let mut lent = empty(tally, asked_for(plain), room, random, Station::Right);
     built(tally, names, made, &mut lent, random, Station::Right);
     beyond(tally, plain, &mut lent);
     missing(tally, plain, &lent, random);

@@ -8,13 +8,13 @@ use std::process::ExitCode;
 use std::time::{Duration, Instant};
 
 use calls::image::{
-    Body, Carrier, Edge, FIRST, Face, Fin, Kept, Loop, MARKS, MOST, Region, Shell, VERSION_MARK,
-    VERSION_RECORD, Vertex, begins, decode, encode,
+    Body, Carrier, Edge, FIRST, Face, Fin, Kept, Loop, MARKS, MOST, NUMBERS, Region, SECOND_BODY,
+    Shell, VERSION_MARK, VERSION_RECORD, Vertex, begins, decode, encode,
 };
 use calls::image_wrong::WRONGS;
 use calls::images::{Station, UNTOUCHED_LENGTH, apart, expected, put, same, same_model};
 use calls::layout::{LARGEST, LISTS, Lent, VERSION};
-use calls::noise::{BORDERS, FIELDS, full, garbage, room, shaped, split, wild};
+use calls::noise::{BORDERS, full, garbage, room, shaped, split, wild};
 use calls::spoil::spoil;
 use calls::tally::Tally;
 use models::plain::{Plain, Version};
@@ -190,7 +190,7 @@ fn other_memory(used: [usize; 10], random: &mut Random) -> (Lent, &'static str) 
 
 /// A field of a record at this place of an image set to a tag or an id, or to a float at a border.
 fn field(image: &mut [u8], at: usize, k: usize, random: &mut Random) {
-    let (numbers, floats) = (FIELDS[k], [0, 0, 0, 0, 0, 0, 1, 4, 6, 6][k]);
+    let (numbers, floats) = (NUMBERS[k], [0, 0, 0, 0, 0, 0, 1, 4, 6, 6][k]);
     let field = random.below(numbers + floats);
     if field < numbers {
         let number = random.pick(&[0, 1, 2, 3, 4, 5, 1 << 16, u32::MAX]);
@@ -264,6 +264,15 @@ fn changed(tally: &mut Tally, station: Station, image: &[u8], kept: &Kept, rando
         slate.read(tally, station, &other, || {
             format!("a field of the record at {at}")
         });
+        // The mark of either office, and what is none of a body; either office for what is no body.
+        if k == 0 || random.one_in(8) {
+            for mark in [MARKS[1], SECOND_BODY, b"BQ", b"BN", b"bP", b"B\0"] {
+                put(&mut other, at, &[&mark[..], &record[2..]].concat());
+                slate.read(tally, station, &other, || {
+                    format!("the mark {mark:?} for the record at {at}")
+                });
+            }
+        }
         at += size;
     }
     for precision in BORDERS {
@@ -314,6 +323,7 @@ fn single() -> Kept {
         precision: 0.001,
         bodies: vec![Body {
             kind: 3,
+            office: 0,
             regions: Vec::new(),
         }],
         regions: vec![Region {
@@ -447,12 +457,21 @@ fn compared(tally: &mut Tally, station: Station, [seed, number]: [u64; 2]) {
             format!("{what}, cut to {} bytes", cut.len())
         });
     }
-    // Over the model itself, as it is and of the other version, and over what cannot be read.
+    // Over the model itself, as it is, of the other version and of the other offices, and over what cannot be read.
     tally.met("models by version", kept.version as u32);
+    for body in &kept.bodies {
+        tally.met("bodies by office", body.office);
+    }
     Slate::new(lent.clone()).read(tally, station, &image, || "over itself".into());
     let mut other = lent.clone();
     other.words[VERSION] = 3 - other.words[VERSION];
     Slate::new(other).read(tally, station, &image, || "over the other version".into());
+    let mut other = lent.clone();
+    for i in 0..used[0] {
+        let at = other.word_at(0, i) + 1;
+        other.words[at] = 1 - other.words[at];
+    }
+    Slate::new(other).read(tally, station, &image, || "over the other offices".into());
     let mut spoiled = lent;
     for _ in 0..random.pick(&[1, 1, 3]) {
         if spoiled.readable() {
@@ -500,7 +519,7 @@ fn small(random: &mut Random) -> (Vec<u8>, [usize; 10]) {
 fn any(base: &[u8], random: &mut Random) -> (Vec<u8>, &'static str) {
     let (n, from) = (base.len(), begins(base));
     let mut image = base.to_vec();
-    let what = match random.below(10) {
+    let what = match random.below(11) {
         0 => {
             let n = random.below(200);
             image = bytes(n, random);
@@ -522,7 +541,8 @@ fn any(base: &[u8], random: &mut Random) -> (Vec<u8>, &'static str) {
                 };
                 put(&mut image, from + 2 + 4 * k, &[count as u8, 0, 0, 0]);
                 for _ in 0..count {
-                    image.extend(MARKS[k + 1]);
+                    let second = k == 0 && random.one_in(2);
+                    image.extend(if second { SECOND_BODY } else { MARKS[k + 1] });
                     // As many numbers as the record has without entries; two of them are a float.
                     for _ in 0..[2, 3, 4, 8, 2, 4, 10, 9, 13, 13][k] {
                         image.extend([random.pick(&[0, 0, 0, 0, 1, 1, 2]), 0, 0, 0]);
@@ -572,6 +592,15 @@ fn any(base: &[u8], random: &mut Random) -> (Vec<u8>, &'static str) {
             let at = random.pick(&[0, 0, FIRST, any]);
             image.splice(at..at, VERSION_RECORD);
             "the version's record in another place"
+        }
+        9 => {
+            // Of the bodies the first, where there is one; else of what stands there.
+            let anywhere = random.below(n);
+            let at = random.pick(&[from + FIRST, anywhere]);
+            let any = [random.bits() as u8, random.bits() as u8];
+            let mark = random.pick(&[*MARKS[1], *SECOND_BODY, *SECOND_BODY, *b"BQ", any]);
+            put(&mut image, at, &mark);
+            "another body mark"
         }
         _ => {
             let at = random.below(n);

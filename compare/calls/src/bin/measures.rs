@@ -6,6 +6,7 @@ use std::env;
 use std::process::ExitCode;
 
 use calls::layout::{LARGEST, LISTS, Lent, VERSION};
+use calls::measures::has_slots;
 use calls::spoil::spoil;
 use calls::tally::Tally;
 use gensolid_core::{Tolerance, effective_tolerance};
@@ -271,21 +272,6 @@ fn garbage(lent: &Lent, random: &mut Random) -> Option<(Lent, &'static str)> {
     (lendable && !spoiled.readable()).then_some((spoiled, what))
 }
 
-/// 01's test 13: slots in the tables and in the lists concerned.
-fn has_slots(plain: &Plain, room: &[usize; 10], edge: usize) -> bool {
-    let used = plain.used();
-    let fins = &plain.edges[edge].fins;
-    let listed = |list: &[usize], ids: &[usize]| ids.iter().filter(|id| list.contains(id)).count();
-    used[5] + fins.len() <= room[5]
-        && used[6] < room[6]
-        && used[7] < room[7]
-        && plain.loops.iter().all(|r| r.fins.len() + listed(&r.fins, fins) <= 1024)
-        && plain
-            .shells
-            .iter()
-            .all(|r| r.wire_edges.len() + listed(&r.wire_edges, &[edge]) <= 256)
-}
-
 /// Up to 50 splits, one after the other, on both sides.
 fn splits(
     tally: &mut Tally,
@@ -365,7 +351,7 @@ fn splits(
             format!("split {step} of edge {edge} at {at:?}")
         });
         if !expected.refused() {
-            plain = original::read(&model, names);
+            plain = original::read(&model, names).of(&plain.offices());
         }
         if expected.numbers != given {
             return;

@@ -140,7 +140,7 @@ fn stone() -> Plain {
     Plain {
         version: Version::First,
         precision: 0.001,
-        bodies: vec![Body { kind: Kind::Solid, regions: vec![0, 1] }],
+        bodies: vec![Body { kind: Kind::Solid, office: 0, regions: vec![0, 1] }],
         regions: (0..2).map(|i| Region { body: 0, solid: i == 1, shells: vec![i] }).collect(),
         shells: (0..2)
             .map(|i| Shell { region: i, faces: (0..6).collect(), wire_edges: vec![], acorn_vertices: vec![] })

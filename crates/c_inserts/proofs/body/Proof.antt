@@ -2,7 +2,7 @@
 use mathlib.Core.Path.{_≡_, sym, _∙_}
 use mathlib.Core.Bool.{true, false}
 use borrow.Author.Tests.{not-true, not-false}
-use Rattle.c_values.specs.Given.{bodyKnown}
+use Rattle.c_values.specs.Given.{bodyKnown, bodyIn}
 use Rattle.c_values.specs.Laws.{put-inserted, unknown-inserted}
 use borrow.Author.Needs.{needs}
 use Rattle.c_inserts.proofs.body.Statement.{statement}
@@ -24,7 +24,8 @@ returns : tie.Need-returns
 returns c =
     let s = c .before .before .before .before .before .before .before in
     let e : bodyKnown (s .args .value .now) ≡ false = sym (c .before .before .before .before .body-known .ensures) ∙ not-true (c .before .before .before .before .body-known .result) (c .before .before .before .if1 .taken) in
-    unknown-inserted (s .args .room .now) (s .args .words .now) (s .args .reals .now) 0 _ _ e (c .unknown-tag .ensures) _ _ _
+    let g : bodyIn (s .args .office) (s .args .value .now) ≡ false = rw e in
+    unknown-inserted (s .args .room .now) (s .args .words .now) (s .args .reals .now) 0 _ _ g (c .unknown-tag .ensures) _ _ _
 
 element-copy-out-kind-of : tie.Need-element-copy-out-kind-of
 element-copy-out-kind-of c = search needs

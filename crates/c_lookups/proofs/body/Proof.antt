@@ -2,7 +2,8 @@
 use mathlib.Core.Path.{sym, ap, _∙_}
 use Rattle.memory_lookups.specs.declared.BodyFound.the-variants.{Is, Refused}
 use Rattle.memory_layout.specs.Decode.{decode}
-use Rattle.memory_lookups.specs.Lookup.{lookupRefusal, bodyAnswer}
+use Rattle.meaning.specs.Offices.{bodyFor}
+use Rattle.office_bodies.specs.Answers.{officeBodyNumber, officeBody}
 use Rattle.memory_records.specs.Seen.{seenBody}
 use Rattle.c_values.specs.Crossing.{bodyValue}
 use Rattle.geom_lines_planes.specs.Laws.{Cases, given, denied}
@@ -26,19 +27,19 @@ enum-known-n : tie.Need-enum-known-n
 enum-known-n c = search needs
 
 returns : tie.Need-returns
-unfolding bodyAnswer
+unfolding officeBody
 returns c =
     let s = c .before .before .before .before .before .before .before .args in
-    let t = decode (s .room .now) (s .words .now) (s .reals .now) .bodies in
-    let p = given cases (lookupRefusal (s .room .now) (s .words .now) (s .reals .now) t (s .id)) (seenBody (t .slot (s .id))) _ (sym (c .before .before .before .before .body .ensures) ∙ c .before .before .r .given .1) in
+    let m = decode (s .room .now) (s .words .now) (s .reals .now) in
+    let p = given cases (officeBodyNumber (s .room .now) (s .words .now) (s .reals .now) (s .office) (s .id)) (seenBody (m .bodies .slot (bodyFor m (s .office) (s .id)))) _ (sym (c .before .before .before .before .body .ensures) ∙ c .before .before .r .given .1) in
     (p .0, c .body-value .ensures ∙ ap bodyValue (p .1))
 
 returns-2 : tie.Need-returns-2
-unfolding bodyAnswer
+unfolding officeBody
 returns-2 c =
     let s = c .before .before .before .before .before .before .args in
-    let t = decode (s .room .now) (s .words .now) (s .reals .now) .bodies in
-    let p = denied cases (lookupRefusal (s .room .now) (s .words .now) (s .reals .now) t (s .id)) (seenBody (t .slot (s .id))) _ (sym (c .before .before .before .body .ensures) ∙ c .before .n .given .1) in
+    let m = decode (s .room .now) (s .words .now) (s .reals .now) in
+    let p = denied cases (officeBodyNumber (s .room .now) (s .words .now) (s .reals .now) (s .office) (s .id)) (seenBody (m .bodies .slot (bodyFor m (s .office) (s .id)))) _ (sym (c .before .before .before .body .ensures) ∙ c .before .n .given .1) in
     (p .0, rw (p .1))
 
 pub body-spec : {M : Type 1} → statement M

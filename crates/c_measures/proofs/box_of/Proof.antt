@@ -5,7 +5,8 @@ use Rattle.meaning.specs.Walks.{vertexWalk}
 use Rattle.meaning.specs.Inquire.{boxOf}
 use Rattle.memory_layout.specs.Decode.{decode}
 use Rattle.inquire_bbox.specs.Boxes.{seenBox}
-use Rattle.inquire_box.specs.Answers.{boxNumber, boxAnswer}
+use Rattle.meaning.specs.Offices.{bodyFor}
+use Rattle.office_measures.specs.Answers.{officeBoxNumber, officeBox}
 use Rattle.c_lent.specs.Laws.{crossed}
 use borrow.Author.Needs.{needs}
 use Rattle.c_measures.proofs.box_of.Statement.{statement}
@@ -27,10 +28,10 @@ same-length-3 : tie.Need-same-length-3
 same-length-3 c = search needs
 
 returns : tie.Need-returns
-unfolding boxAnswer
+unfolding officeBox
 returns c =
     let s = c .before .before .before .before .before .before .before .before .before .before .before .before .before .before .before .before .before .args in
-    let p = crossed (c .put-box .ensures) (boxNumber (s .room .now) (s .words .now) (s .reals .now) (s .body) (s .faces .now) (s .edges .now) (s .vertices .now)) (seenBox (boxOf (map (pointOf (decode (s .room .now) (s .words .now) (s .reals .now))) (vertexWalk (decode (s .room .now) (s .words .now) (s .reals .now)) (s .body))))) (c .before .before .before .before .before .before .before .before .body-bounding-box .ensures .0) in
+    let p = crossed (c .put-box .ensures) (officeBoxNumber (s .room .now) (s .words .now) (s .reals .now) (s .office) (s .body) (s .faces .now) (s .edges .now) (s .vertices .now)) (seenBox (boxOf (map (pointOf (decode (s .room .now) (s .words .now) (s .reals .now))) (vertexWalk (decode (s .room .now) (s .words .now) (s .reals .now)) (bodyFor (decode (s .room .now) (s .words .now) (s .reals .now)) (s .office) (s .body)))))) (c .before .before .before .before .before .before .before .before .body-bounding-box .ensures .0) in
     (p .0, (p .1, c .before .before .before .before .before .before .before .before .body-bounding-box .ensures .1))
 
 pub box-of-spec : {M : Type 1} → statement M

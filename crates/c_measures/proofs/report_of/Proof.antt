@@ -2,7 +2,10 @@
 use Prim.Native.Nat.{_/_}
 use lib.ListN.{length}
 use Rattle.meaning.specs.Faults.{counts}
-use Rattle.check_report.specs.Calls.{asked, seenCounts, reportOn, checkNumber, checkAnswer}
+use Rattle.meaning.specs.Offices.{bodyFor}
+use Rattle.memory_layout.specs.Decode.{decode}
+use Rattle.check_report.specs.Calls.{asked, seenCounts, reportOn}
+use Rattle.office_measures.specs.Answers.{officeCheckNumber, officeReport}
 use Rattle.c_answers.specs.Values.{wanted}
 use Rattle.c_lent.specs.Laws.{crossed}
 use borrow.Author.Needs.{needs}
@@ -25,10 +28,10 @@ same-length-3 : tie.Need-same-length-3
 same-length-3 c = search needs
 
 returns : tie.Need-returns
-unfolding checkAnswer
+unfolding officeReport
 returns c =
     let s = c .before .before .before .before .before .before .before .before .before .before .before .before .before .before .before .before .before .args in
-    let p = crossed (c .put-counts .ensures) (checkNumber (s .room .now) (s .words .now) (s .reals .now) (s .body) (asked (wanted (s .geometry)) (s .samples)) (s .faces .now) (s .edges .now)) (seenCounts (counts (length (s .nums .now) / 4) (reportOn (s .room .now) (s .words .now) (s .reals .now) (s .body) (asked (wanted (s .geometry)) (s .samples))))) (c .before .before .before .before .before .before .before .before .check-body .ensures .0) in
+    let p = crossed (c .put-counts .ensures) (officeCheckNumber (s .room .now) (s .words .now) (s .reals .now) (s .office) (s .body) (asked (wanted (s .geometry)) (s .samples)) (s .faces .now) (s .edges .now)) (seenCounts (counts (length (s .nums .now) / 4) (reportOn (s .room .now) (s .words .now) (s .reals .now) (bodyFor (decode (s .room .now) (s .words .now) (s .reals .now)) (s .office) (s .body)) (asked (wanted (s .geometry)) (s .samples))))) (c .before .before .before .before .before .before .before .before .check-body .ensures .0) in
     (p .0, (p .1, c .before .before .before .before .before .before .before .before .check-body .ensures .1))
 
 pub report-of-spec : {M : Type 1} → statement M

@@ -1,7 +1,7 @@
 -- `c_measures::split_of` meets its contract. Assumes nothing.
 use Rattle.memory_layout.specs.Layout.{word}
-use Rattle.split_place.specs.SplitNumber.{splitNumber}
-use Rattle.split_edge.specs.After.{splitAnswer}
+use Rattle.split_place.specs.SplitNumber.{officeSplitNumber}
+use Rattle.split_edge.specs.After.{officeSplitAnswer}
 use Rattle.c_lent.specs.Laws.{crossed}
 use borrow.Author.Needs.{needs}
 use Rattle.c_measures.proofs.split_of.Statement.{statement}
@@ -20,10 +20,10 @@ same-length-2 : tie.Need-same-length-2
 same-length-2 c = search needs
 
 returns : tie.Need-returns
-unfolding splitAnswer
+unfolding officeSplitAnswer
 returns c =
     let s = c .before .before .before .before .before .before .before .before .before .before .before .args in
-    let p = crossed (c .put-split .ensures) (splitNumber (s .room .now) (s .words .now) (s .reals .now) (s .edge) (s .fraction)) (record { «original_edge» = s .edge; «new_edge» = word (s .words .now) 6; vertex = word (s .words .now) 7 }) (c .before .before .before .before .before .before .split-line-edge .ensures .0) in
+    let p = crossed (c .put-split .ensures) (officeSplitNumber (s .room .now) (s .words .now) (s .reals .now) (s .office) (s .edge) (s .fraction)) (record { «original_edge» = s .edge; «new_edge» = word (s .words .now) 6; vertex = word (s .words .now) 7 }) (c .before .before .before .before .before .before .split-line-edge .ensures .0) in
     (p .0, (p .1, c .before .before .before .before .before .before .split-line-edge .ensures .1))
 
 pub split-of-spec : {M : Type 1} → statement M

@@ -1,17 +1,18 @@
 -- `c_queries::contains` meets its contract. Assumes nothing.
-use Prim.Native.Nat.{ℕ, zero, suc}
 use mathlib.Core.Path.{_≡_, refl, sym, ap, _∙_}
-use mathlib.Core.Bool.{true, false}
+use mathlib.Core.Bool.{Bool, true, false}
 use mathlib.Core.List.{[], _∷_}
 use borrow.Author.Tests.{lt-ltb, le-ltb}
-use lib.Dec.{ltb}
+use lib.Dec.{ltb, leb}
 use Rattle.geom_lines_planes.specs.Refuse.{_unless_, _then_}
 use Rattle.memory_layout.specs.Decode.{decode}
-use Rattle.memory_layout.specs.Readable.{readable}
+use Rattle.memory_layout.specs.Readable.{readable, tagNumber}
 use Rattle.memory_contains.specs.declared.Contained.the-variants.{Is, Refused}
-use Rattle.memory_contains.specs.Answers.{contained, containsAnswer}
+use Rattle.memory_contains.specs.Answers.{contained}
+use Rattle.memory_offices.specs.Sight.{byOffice}
+use Rattle.office_bodies.specs.Answers.{entityFor, officeContains}
 use Rattle.edit_tags.specs.Tags.{mark}
-use Rattle.c_values.specs.Given.{tagNumber, entityOf}
+use Rattle.c_values.specs.Given.{entityOf}
 use Rattle.c_values.specs.Laws.{unknown-some}
 use Rattle.geom_lines_planes.specs.Laws.{Cases, given, denied}
 use borrow.Author.Needs.{needs}
@@ -21,19 +22,21 @@ use Rattle.c_queries.proofs.contains.Tie as tie
 cases : Cases Is Refused
 cases = record { apart = λ b m e. cc; values = λ a b e. cc; numbers = λ m n e. cc }
 
-none-more : (n : ℕ) → n ≡ (n then 0)
-none-more zero = refl
-none-more (suc n) = refl
+-- 1, whatever the office
+either : (b c : Bool) → (9 unless b then 1) ≡ (9 unless b then 1 unless c then 1)
+either true true = refl
+either true false = refl
+either false c = refl
 
 unknown-tag-requires : tie.Need-unknown-tag-requires
 unknown-tag-requires c κs = search needs
 
 returns : tie.Need-returns
-unfolding tagNumber
+unfolding tagNumber byOffice
 returns c =
     let s = c .before .before .before .before .args in
     let e : ltb (s .class) 8 ≡ false = le-ltb _ _ (c .before .if1 .taken) in
-    rw e (c .unknown-tag .ensures, rw (unknown-some (s .room .now) (s .words .now) (s .reals .now) _ (c .unknown-tag .ensures)))
+    rw e (c .unknown-tag .ensures ∙ either (readable (s .room .now) (s .words .now) (s .reals .now)) (leb (s .office) 1), rw (unknown-some (s .room .now) (s .words .now) (s .reals .now) _ (c .unknown-tag .ensures)))
 
 entity-of-requires : tie.Need-entity-of-requires
 entity-of-requires c κs = search needs
@@ -51,22 +54,22 @@ enum-known-n : tie.Need-enum-known-n
 enum-known-n c = search needs
 
 returns-2 : tie.Need-returns-2
-unfolding containsAnswer
+unfolding officeContains
 returns-2 c =
     let s = c .before .before .before .before .before .before .before .before .before .args in
     let h : ltb (s .class) 8 ≡ true = lt-ltb _ _ (c .before .before .before .before .before .before .if1 .left) in
-    let e = sym (c .before .before .before .before .contains .ensures ∙ ap (containsAnswer (s .room .now) (s .words .now) (s .reals .now)) (c .before .before .before .before .before .entity-of .ensures)) ∙ c .before .before .yes .given .1 in
-    let p = given cases (9 unless readable (s .room .now) (s .words .now) (s .reals .now)) (contained (decode (s .room .now) (s .words .now) (s .reals .now)) (entityOf (s .class) (s .id))) _ e in
-    rw h (p .0 ∙ none-more _, c .mark-value .ensures ∙ ap (λ b. mark b ∷ []) (p .1))
+    let e = sym (c .before .before .before .before .contains .ensures ∙ ap (officeContains (s .room .now) (s .words .now) (s .reals .now) (s .office)) (c .before .before .before .before .before .entity-of .ensures)) ∙ c .before .before .yes .given .1 in
+    let p = given cases (byOffice (s .room .now) (s .words .now) (s .reals .now) (s .office) 0) (contained (decode (s .room .now) (s .words .now) (s .reals .now)) (entityFor (decode (s .room .now) (s .words .now) (s .reals .now)) (s .office) (entityOf (s .class) (s .id)))) _ e in
+    rw h (p .0, c .mark-value .ensures ∙ ap (λ b. mark b ∷ []) (p .1))
 
 returns-3 : tie.Need-returns-3
-unfolding containsAnswer
+unfolding officeContains
 returns-3 c =
     let s = c .before .before .before .before .before .before .before .before .args in
     let h : ltb (s .class) 8 ≡ true = lt-ltb _ _ (c .before .before .before .before .before .if1 .left) in
-    let e = sym (c .before .before .before .contains .ensures ∙ ap (containsAnswer (s .room .now) (s .words .now) (s .reals .now)) (c .before .before .before .before .entity-of .ensures)) ∙ c .before .n .given .1 in
-    let p = denied cases (9 unless readable (s .room .now) (s .words .now) (s .reals .now)) (contained (decode (s .room .now) (s .words .now) (s .reals .now)) (entityOf (s .class) (s .id))) _ e in
-    rw h (p .0 ∙ none-more _, rw (p .1))
+    let e = sym (c .before .before .before .contains .ensures ∙ ap (officeContains (s .room .now) (s .words .now) (s .reals .now) (s .office)) (c .before .before .before .before .entity-of .ensures)) ∙ c .before .n .given .1 in
+    let p = denied cases (byOffice (s .room .now) (s .words .now) (s .reals .now) (s .office) 0) (contained (decode (s .room .now) (s .words .now) (s .reals .now)) (entityFor (decode (s .room .now) (s .words .now) (s .reals .now)) (s .office) (entityOf (s .class) (s .id)))) _ e in
+    rw h (p .0, rw (p .1))
 
 pub contains-spec : {M : Type 1} → statement M
 contains-spec =

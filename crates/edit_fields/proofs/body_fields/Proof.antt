@@ -9,7 +9,7 @@ kind-tag-requires c κs = tt
 
 returns : tie.Need-returns
 unfolding bodyFields
-returns c = λ i. c .kind-tag .ensures i ∷ []
+returns c = λ i. c .kind-tag .ensures i ∷ c .before .args .office ∷ []
 
 pub body-fields-spec : {M : Type 1} → statement M
 body-fields-spec = tie.close (tie.spec kind-tag-requires returns)

@@ -14,7 +14,9 @@ use Rattle.image_records.proofs.write_record.Statement.{statement}
 use Rattle.image_records.proofs.write_record.Tie as tie
 
 mark-of-requires : tie.Need-mark-of-requires
-mark-of-requires c κs = c .before .before .before .before .pre .0 .whole .table
+mark-of-requires c κs =
+    let s = c .before .before .before .before in
+    listed-of (s .args .k) (s .args .w .now) (s .args .x .now) (s .pre .0)
 
 put-mark-requires : tie.Need-put-mark-requires
 put-mark-requires c κs =

@@ -20,7 +20,7 @@ returns : tie.Need-returns
 unfolding seenBody
 returns c =
     let s = c .before .before .before .before in
-    let regions = held-length (s .args .w .now) 1 (s .pre) in
+    let regions = held-length (s .args .w .now) 2 (s .pre) in
     λ i. record { kind = c .before .kind-of .ensures i; regions = sym regions i }
 
 pub body-of-spec : {M : Type 1} → statement M

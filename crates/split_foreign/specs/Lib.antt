@@ -1,0 +1,4 @@
+pub mod Status
+pub mod Facts
+pub mod Laws
+pub mod Met

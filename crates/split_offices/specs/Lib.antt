@@ -1,0 +1,5 @@
+pub mod Calls
+pub mod Heard
+pub mod Passed
+pub mod Refused
+pub mod Statements
