@@ -1,4 +1,5 @@
-/* Lays out the trial stone, asks all that the header has, splits an edge, keeps it as bytes, is refused, also as the other office, and does so by both versions. What it must print is the file `stdout` beside it. */
+/* Lays out the trial stone, asks all that the header has, takes it in on a sheet, splits an edge, keeps it as bytes, is refused, also as the other office, and does so by both versions. What it must print is the file `stdout` beside it. */
+#include <inttypes.h>
 #include <string.h>
 
 #include "stone.h"
@@ -32,6 +33,32 @@ static void measured(void)
     done(brunskerl_body_volume(ASKED, 0, FACES, &volume), "volume");
     done(brunskerl_body_bounding_box(ASKED, 0, VERTICES, &box), "box");
     printf("volume %g, box (%g, %g, %g) to (%g, %g, %g)\n", volume[0], box[0], box[1], box[2], box[3], box[4], box[5]);
+}
+
+/* The stone taken in on a sheet, and the sheet, as it stands behind a refusal too. */
+static void taken(const char *what, uint64_t (*sheet)[5])
+{
+    told(what, brunskerl_sheet_take(ASKED, 0, FACES, sheet));
+    uint64_t *word = *sheet;
+    printf("  %" PRIu64 " stones, total (%" PRIu64 ", %" PRIu64 "), the largest is body %" PRIu64 " with %" PRIu64 "\n", word[0], word[1], word[2], word[3], word[4]);
+}
+
+/* One running sheet, and sheets at their ends. */
+static void stones(void)
+{
+    uint64_t sheet[5] = {0}, last[5] = {65535, 0, 0, 7, 8}, over[5] = {65537, 0, 0, 7, 8}, most[5] = {6, UINT64_MAX, 0, 7, 600000};
+    taken("the stone on a new sheet", &sheet);
+    taken("the stone once more", &sheet);
+    done(brunskerl_set_vertex(LENT, 7, WORDS(1, 0), FLOATS(4, 4, 3, 2.03125, 0)), "a corner moved");
+    taken("the stone with a corner half a sixteenth off the grid", &sheet);
+    done(brunskerl_set_vertex(LENT, 7, WORDS(1, 0), FLOATS(4, 4, 3, 2, 0)), "the corner moved back");
+    taken("the last stone of a sheet", &last);
+    taken("one more", &last);
+    taken("on a sheet of 65537 stones", &over);
+    taken("on a sheet whose low word is full", &most);
+    office = 1;
+    taken("as office 1", &sheet);
+    office = 0;
 }
 
 static void report(void)
@@ -200,6 +227,7 @@ int main(void)
     lay_out(1);
     walks();
     measured();
+    stones();
     report();
     entries();
     others();
@@ -211,6 +239,8 @@ int main(void)
     kept();
     walks();
     measured();
+    uint64_t sheet[5] = {0};
+    taken("the split stone on a new sheet", &sheet);
     report();
     /* Every table of the split is full now, and so is that of the bodies. */
     split(1, 0.5);

@@ -11,6 +11,7 @@ enum { SIZE = 1 << 20, PAINT = 0xa5, ABOVE = 128 };
 static _Alignas(4096) unsigned char stack[SIZE];
 
 static uint32_t ids[16], code;
+static uint64_t sheet[5];
 static size_t counts[3], length[1];
 static double floats[6];
 
@@ -67,6 +68,7 @@ CALL(body_vertices, office, 0, VERTICES, ids, 16, &code)
 CALL(fin_vertices, 0, SLOTS(4))
 CALL(body_bounding_box, office, 0, VERTICES, REALS(6))
 CALL(body_volume, office, 0, FACES, REALS(1))
+CALL(sheet_take, office, 0, FACES, &sheet)
 CALL(edge_parameter_bounds, 0, REALS(2))
 /* By the other office, which walks the body and is refused, and by its own. */
 static void split_line_edge(void)
@@ -90,7 +92,7 @@ static const struct {
     ROW(insert_vertex), ROW(insert_curve), ROW(insert_surface), ROW(set_body), ROW(set_region), ROW(set_shell), ROW(set_face),
     ROW(set_loop), ROW(set_fin), ROW(set_edge), ROW(set_vertex), ROW(set_curve), ROW(set_surface), ROW(set_fin_geometry), ROW(contains),
     ROW(list_entry), ROW(put_entry), ROW(append_entry), ROW(strike_entry), ROW(body_faces), ROW(body_edges), ROW(body_vertices),
-    ROW(fin_vertices), ROW(body_bounding_box), ROW(body_volume), ROW(edge_parameter_bounds), ROW(split_line_edge), ROW(check_body),
+    ROW(fin_vertices), ROW(body_bounding_box), ROW(body_volume), ROW(sheet_take), ROW(edge_parameter_bounds), ROW(split_line_edge), ROW(check_body),
     ROW(fit_to_saw), ROW(image_length), ROW(write_image), ROW(read_image), ROW(make),
 };
 

@@ -31,7 +31,7 @@
  * Each call returns 0 or the refusal's number, unless it says otherwise. A refusal is the number alone: no call says which record it was refused for. It
  * leaves every table, list and slot as it was, but for a walk's `code`, which gets the number; marks are left zero, refused or not. The refusals
  * stand beside the calls in the order of their tests, and the first that applies is given.
- *   1 bad argument   2 no such record   4 degenerate   6 not a solid   7 not carried, or a sign in doubt   8 no room   9 unreadable
+ *   1 bad argument   2 no such record   4 degenerate   5 off the grid   6 not a solid   7 not carried, or a sign in doubt   8 no room   9 unreadable
  *
  * A record's fields, as `value` and `floats` hold them. An optional id is a tag, 0 for none or 1, and the id. A lookup gives the lengths
  * of the record's lists behind its fields; an insert and a set take the fields alone, and the lists are filled entry by entry.
@@ -138,6 +138,18 @@ uint32_t brunskerl_fin_vertices(BRUNSKERL_MEMORY, size_t fin, uint32_t (*ends)[4
  * one; 4 where there is no such face. */
 uint32_t brunskerl_body_bounding_box(BRUNSKERL_MEMORY, uint32_t office, size_t body, uint8_t *faces, size_t f, uint8_t *edges, size_t e, uint8_t *vertices, size_t v, double (*corners)[6]);
 uint32_t brunskerl_body_volume(BRUNSKERL_MEMORY, uint32_t office, size_t body, uint8_t *faces, size_t f, double (*volume)[1]);
+
+/* The stone sheet in whole numbers: takes the body in on one running sheet, which is handed from body to body. Its number is six times the volume in cubic
+ * sixteenths of a millimetre, exactly, over the same faces and fans as the float volume; that of a stone inside out is negative. The sheet's five words:
+ *   0     how many stones it has
+ *   1, 2  their exact total in two's complement, the low word first
+ *   3, 4  the largest stone so far, its body's id and its number in two's complement; among equals the first met
+ * Five zeros are a new sheet. Where there is no stone there is no largest, whatever words 3 and 4 hold. They are not tested, and which stones were taken in is
+ * not kept: a body that is taken in twice counts twice. Where the sheet has room for all of them, the total is the same in any order.
+ * Refusals: 9, also for a sheet of over 65,536 stones or with a total above 3 * 2^60 in size per stone, 1 for the office, 8 for short marks, all of the volume's, 5
+ * where a coordinate of the fans' points is no whole sixteenth of a millimetre or above 2,048 mm in size, 8 for more than 4,096 triangles, which are the fins less two
+ * of each face, 8 where the sheet has 65,536 stones. A refusal leaves all five words. */
+uint32_t brunskerl_sheet_take(BRUNSKERL_MEMORY, uint32_t office, size_t body, uint8_t *faces, size_t f, uint64_t (*sheet)[5]);
 
 /* The parameters of an edge's ends on its line, and the split at a fraction between them: that edge, the new edge, the new
  * vertex. The line's direction must have the length 1, or the new vertex can lie beyond the edge's end.

@@ -1,6 +1,6 @@
-//! Builds a box, checks it, splits an edge where a blade pass ends, and prints the report.
+//! Builds a box, checks it, splits an edge where a blade pass ends, takes it in on a sheet, and prints the report.
 
-use brunskerl::{LARGEST, Model, Refusal};
+use brunskerl::{LARGEST, Model, Refusal, Sheet};
 
 fn report(model: &Model, body: u32) -> Result<(), Refusal> {
     let report = model.check_body(body, Some(3))?;
@@ -28,6 +28,11 @@ fn main() -> Result<(), Refusal> {
     let split = model.split_line_edge(0, 0.25)?;
     println!("edge 0 is split: new edge {}, new vertex {}", split.edge, split.vertex);
     report(&model, body)?;
+
+    // In whole numbers, for the yard's price: six times the volume in cubic sixteenths of a millimetre.
+    let mut sheet = Sheet::new();
+    model.take(body, &mut sheet)?;
+    println!("the sheet: {} stones, {} in all", sheet.stones(), sheet.total());
 
     // A second pass too near the first is refused, not swallowed.
     match model.split_line_edge(0, 0.999_9) {

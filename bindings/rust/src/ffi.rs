@@ -43,6 +43,7 @@ calls! {
     ) -> u32;
     brunskerl_fit_to_saw(office: u32, body: usize, faces: *mut u8, f: usize, edges: *mut u8, e: usize, fit: *mut [u32; 1]) -> u32;
     brunskerl_body_volume(office: u32, body: usize, faces: *mut u8, f: usize, volume: *mut [f64; 1]) -> u32;
+    brunskerl_sheet_take(office: u32, body: usize, faces: *mut u8, f: usize, sheet: *mut [u64; 5]) -> u32;
     brunskerl_image_length(length: *mut [usize; 1]) -> u32;
     brunskerl_write_image(bytes: *mut u8, b: usize, length: *mut [usize; 1]) -> u32;
     ;

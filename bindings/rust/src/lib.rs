@@ -15,6 +15,8 @@
 //! office's: a body that it makes is its own, and a body of the other's is answered as one that does not exist. So a program for one office says which it is
 //! once, or not at all.
 //!
+//! [`Model::take`] takes a stone in on a [`Sheet`], in whole numbers.
+//!
 //! [`Model::save`] gives a model as bytes, to be kept, and [`Model::load`] takes it back.
 //!
 //! The example `lintel` builds a box, checks it, splits an edge and prints the report.
@@ -22,12 +24,14 @@
 mod directions;
 mod ffi;
 mod records;
+mod sheet;
 mod stone;
 mod words;
 
 use records::optional;
 
 pub use records::{BodyKind, Carrier, Edge, Face, Fin, List, Office, Region, Sense, Version, Vertex};
+pub use sheet::{Sheet, Stone};
 pub use words::{Entity, Fault, Refusal};
 
 /// 01's largest tables: bodies, regions, shells, faces, loops, fins, edges, vertices, curves, surfaces.
@@ -519,6 +523,23 @@ impl Model {
             brunskerl_body_volume(self.office as u32, body as usize, f.as_mut_ptr(), f.len(), &mut volume)
         ))?;
         Ok(volume[0])
+    }
+
+    /// Takes the body in on the sheet: its number is six times its volume in cubic sixteenths of a millimetre, exactly, over the same faces and fans as
+    /// [`Model::body_volume`]. A refusal leaves the sheet as it was.
+    ///
+    /// [`Refusal::Unreadable`] for a sheet of over 65,536 stones or with a total above 3 · 2^60 in size per stone, which none is that was made by
+    /// [`Sheet::new`]; then refused as the volume is; then [`Refusal::OffGrid`] where a coordinate of a face's corner is no whole sixteenth of a millimetre or above
+    /// 2,048 mm in size, [`Refusal::NoRoom`] for more than 4,096 triangles, which are the fins less two of each face, and [`Refusal::NoRoom`] where the sheet has
+    /// 65,536 stones.
+    ///
+    /// The sheet does not keep which stones it has: a body that is taken in twice counts twice.
+    pub fn take(&self, body: u32, sheet: &mut Sheet) -> Result<(), Refusal> {
+        let [mut f, ..] = self.marks();
+        Refusal::of(ask!(
+            self,
+            brunskerl_sheet_take(self.office as u32, body as usize, f.as_mut_ptr(), f.len(), sheet.words())
+        ))
     }
 
     /// The parameters of the edge's start and end on its line.

@@ -9,6 +9,7 @@ pub enum Refusal {
     BadArgument = 1,
     NotFound = 2,
     Degenerate = 4,
+    OffGrid = 5,
     NotSolid = 6,
     Unresolved = 7,
     NoRoom = 8,
@@ -16,10 +17,11 @@ pub enum Refusal {
 }
 
 impl Refusal {
-    pub const ALL: [Self; 7] = [
+    pub const ALL: [Self; 8] = [
         Self::BadArgument,
         Self::NotFound,
         Self::Degenerate,
+        Self::OffGrid,
         Self::NotSolid,
         Self::Unresolved,
         Self::NoRoom,
@@ -44,10 +46,11 @@ impl fmt::Display for Refusal {
             Self::BadArgument => "refused: a value lies outside what the call takes",
             Self::NotFound => "refused: a record that is named or needed does not exist",
             Self::Degenerate => "refused: too short, too thin or empty at the session's precision",
+            Self::OffGrid => "refused: a coordinate is off the grid of sixteenths of a millimetre, or too large for it",
             Self::NotSolid => "refused: the body is not a solid",
             Self::Unresolved => "refused: the geometry is not carried, or a sign is in doubt",
-            Self::NoRoom => "refused: no room is left in a table or list",
-            Self::Unreadable => "refused: the tables or the image cannot be read",
+            Self::NoRoom => "refused: no room is left in a table, in a list or on the sheet, or the body has too many triangles for it",
+            Self::Unreadable => "refused: the tables, the image or the sheet cannot be read",
         })
     }
 }

@@ -12,6 +12,8 @@ pub mod offices;
 pub mod operations;
 pub mod ours;
 pub mod queries;
+pub mod sheet_wrong;
+pub mod sheets;
 pub mod spoil;
 pub mod tally;
 pub mod walks;

@@ -1,4 +1,5 @@
-//! The station's larger calls, as a C program links them: splits, boxes, volumes and the checker. Each answer is numbers: 0 and the value's, or the refusal alone.
+//! The station's larger calls, as a C program links them: splits, boxes, volumes, the checker and the sheet. Each answer is numbers: 0 and the value's, or the
+//! refusal alone.
 
 use models::plain::{Plain, bits};
 
@@ -77,6 +78,18 @@ unsafe extern "C" {
         edges: *mut u8,
         e: usize,
         value: *mut [u32; 1],
+    ) -> u32;
+    fn brunskerl_sheet_take(
+        room: Room,
+        words: *const u32,
+        n: usize,
+        reals: *const f64,
+        m: usize,
+        office: u32,
+        body: usize,
+        faces: *mut u8,
+        f: usize,
+        sheet: *mut [u64; 5],
     ) -> u32;
 }
 
@@ -309,5 +322,24 @@ impl Lent {
             fit.map(u64::from).to_vec()
         });
         cleared(&marks[..2], given)
+    }
+
+    /// The number alone; the sheet is updated where it stands (W-201).
+    pub fn take(&self, body: usize, faces: &mut [u8], sheet: &mut [u64; 5]) -> u32 {
+        // SAFETY: the call reads the lent memory, writes to the marks and the sheet, and keeps no address.
+        unsafe {
+            brunskerl_sheet_take(
+                &self.room,
+                self.words.as_ptr(),
+                self.words.len(),
+                self.reals.as_ptr(),
+                self.reals.len(),
+                self.office,
+                body,
+                faces.as_mut_ptr(),
+                faces.len(),
+                sheet,
+            )
+        }
     }
 }

@@ -283,12 +283,17 @@ pub fn shaped(random: &mut Random) -> (Lent, String) {
         .map(|_| random.below(2) as u32)
         .collect();
     plain = plain.of(&offices);
-    let tight = Lent::holding(&plain, plain.used(), 0, 0.0);
+    (around(&plain, random), told)
+}
+
+/// The model in memory that holds garbage wherever nothing is said of it; in just its own where that cannot be read.
+pub fn around(plain: &Plain, random: &mut Random) -> Lent {
+    let tight = Lent::holding(plain, plain.used(), 0, 0.0);
     if !tight.readable() {
-        return (tight, told);
+        return tight;
     }
     let mut lent = garbage(room(plain.used(), random), random);
     Kept::of(&tight).over(&mut lent);
     unsaid(&mut lent, random);
-    (lent, told)
+    lent
 }

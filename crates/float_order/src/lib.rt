@@ -1,7 +1,7 @@
 // For callers: one float up and one float down, by the bit pattern (interval.rs moves its bounds by them). Inner: `down_bits`.
 //
 // The family float_: f64 as IEEE 754 has it. float_order has the floats in their order, float_vectors points and vectors of them, float_values what number
-// each is, and float_exact which sums are exact.
+// each is, float_exact which sums are exact, and float_grid which floats are whole sixteenths.
 pub mod extremes;
 
 ghost use mathlib.Core.Path.{_≡_};

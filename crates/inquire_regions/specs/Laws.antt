@@ -2,7 +2,7 @@
 use Prim.Native.Nat.{ℕ, zero, suc, _+_, _<_}
 use native.Mathlib.Omega.{arith}
 use mathlib.Core.Path.{_≡_, refl, sym, ap, _∙_}
-use mathlib.Core.Bool.{Bool, true, false, cond}
+use mathlib.Core.Bool.{Bool, true, false, not, cond, _&&_}
 use mathlib.Core.List.{List, [], _∷_, _++_, map, append-nil, append-assoc}
 use lib.Dec.{eqb, ltb}
 use lib.ListN.{length, getD, take}
@@ -22,6 +22,9 @@ use Rattle.memory_layout.specs.Entries.{listOf}
 use Rattle.walk_marks.specs.Laws.{take-more, map-turn}
 use Rattle.walk_sources.specs.Sources.{followed}
 use Rattle.walk_sources.specs.Laws.{followed-slot, followed-entries}
+use Rattle.inquire_weight.specs.declared.Weight.{Weight}
+use Rattle.inquire_weight.specs.Weights.{noWeight, weightOf}
+use Rattle.inquire_weight.specs.Laws.{none-weighs}
 use Rattle.inquire_regions.specs.declared.Tally.{Tally}
 use Rattle.inquire_regions.specs.Regions.{tallyOf, regionSides, solidShells, facesWhole, regionWhole}
 
@@ -38,37 +41,55 @@ module _ (m : Model) where
   sum-snoc acc [] s = refl
   sum-snoc acc (r ∷ l) s = sum-snoc (acc +ᶠ sideVolume m r) l s
 
-  pub tally-none : record { refused = 0; empty = true; volume = zeroF } ≡ tallyOf m []
+  pub tally-none : (w : Weight) → w ≡ noWeight → (whole : Bool) → record { refused = 0; empty = true; volume = zeroF; weight = w } ≡ tallyOf whole m []
   unfolding tallyOf sidesRefusal sumVolumes
-  tally-none = refl
+  tally-none w e true = ap (λ k. record { refused = 0; empty = true; volume = zeroF; weight = k }) (e ∙ none-weighs m)
+  tally-none w e false = ap (λ k. record { refused = 0; empty = true; volume = zeroF; weight = k }) e
 
   some : (l : List Side) (s : Side) → eqb (length (l ++ (s ∷ []))) 0 ≡ false
   some [] s = ne-eqb (length (s ∷ [])) 0 (λ e. omega arith)
   some (r ∷ l) s = ne-eqb (length (r ∷ (l ++ (s ∷ [])))) 0 (λ e. omega arith)
 
-  module _ (t : Tally) (l : List Side) (s : Side) (n : ℕ) (so-far : t ≡ tallyOf m l) (next : n ≡ (t .refused then sideRefusal m s)) where
+  module _ (whole : Bool) (t : Tally) (l : List Side) (s : Side) (n : ℕ) (so-far : t ≡ tallyOf whole m l) (next : n ≡ (t .refused then sideRefusal m s)) where
     number : n ≡ sidesRefusal m (l ++ (s ∷ []))
     number = next ∙ ap (λ (k : Tally). k .refused then sideRefusal m s) so-far ∙ (unfold tallyOf in sym (refusal-snoc l s))
 
-    pub tally-refused : (n ≡ 0 → ⊥) → record { refused = n; empty = false; volume = zeroF } ≡ tallyOf m (l ++ (s ∷ []))
+    pub tally-refused : (w : Weight) → w ≡ noWeight → (n ≡ 0 → ⊥) → record { refused = n; empty = false; volume = zeroF; weight = w } ≡ tallyOf whole m (l ++ (s ∷ []))
     unfolding tallyOf
-    tally-refused z = rw (some l s, ← number, ne-eqb n 0 z)
-
-    pub tally-more : (v : Float) → n ≡ 0 → v ≡ t .volume +ᶠ sideVolume m s → record { refused = 0; empty = false; volume = v } ≡ tallyOf m (l ++ (s ∷ []))
-    unfolding tallyOf
-    tally-more v z e =
-        let gone : sidesRefusal m (l ++ (s ∷ [])) ≡ 0 = sym number ∙ z in
-        rw (some l s, gone, sum-snoc zeroF l s, e) (ap (λ a. record { refused = 0; empty = false; volume = a +ᶠ sideVolume m s }) sum)
+    tally-refused w e z = rw (some l s, ← number, ne-eqb n 0 z, never (not whole), never whole) (ap (λ k. record { refused = n; empty = false; volume = zeroF; weight = k }) e)
       where
-        passed : (a b : ℕ) → (a then b) ≡ 0 → a ≡ 0
-        passed zero b h = refl
-        passed (suc a) b h = absurd (omega arith)
+        never : (b : Bool) → (b && false) ≡ false
+        never true = refl
+        never false = refl
 
-        none : sidesRefusal m l ≡ 0
-        none = passed (sidesRefusal m l) (sideRefusal m s) (sym (refusal-snoc l s) ∙ sym number ∙ z)
+    -- no side is refused
+    module _ (z : n ≡ 0) where
+      gone : sidesRefusal m (l ++ (s ∷ [])) ≡ 0
+      gone = sym number ∙ z
 
-        sum : t .volume ≡ sumVolumes m zeroF l
-        sum = ap (λ (k : Tally). k .volume) so-far ∙ (unfold tallyOf in ap (λ k. cond (eqb k 0) (sumVolumes m zeroF l) zeroF) none)
+      none : sidesRefusal m l ≡ 0
+      none = passed (sidesRefusal m l) (sideRefusal m s) (sym (refusal-snoc l s) ∙ gone)
+        where
+          passed : (a b : ℕ) → (a then b) ≡ 0 → a ≡ 0
+          passed zero b h = refl
+          passed (suc a) b h = absurd (omega arith)
+
+      pub tally-weighed : (w : Weight) → whole ≡ true → ((k : List Side) → t .weight ≡ weightOf m k → w ≡ weightOf m (k ++ (s ∷ []))) → record { refused = 0; empty = false; volume = zeroF; weight = w } ≡ tallyOf whole m (l ++ (s ∷ []))
+      unfolding tallyOf
+      tally-weighed w q e = rw (q, some l s, gone) (ap (λ k. record { refused = 0; empty = false; volume = zeroF; weight = k }) (e l held))
+        where
+          held : t .weight ≡ weightOf m l
+          held = ap (λ (k : Tally). k .weight) so-far ∙ (unfold tallyOf in ap (λ b. cond (b && eqb (sidesRefusal m l) 0) (weightOf m l) noWeight) q ∙ ap (λ k. cond (eqb k 0) (weightOf m l) noWeight) none)
+
+      pub tally-more : (v : Float) → whole ≡ false → v ≡ t .volume +ᶠ sideVolume m s → record { refused = 0; empty = false; volume = v; weight = t .weight } ≡ tallyOf whole m (l ++ (s ∷ []))
+      unfolding tallyOf
+      tally-more v q e = rw (q, some l s, gone, sum-snoc zeroF l s, e, held) (ap (λ a. record { refused = 0; empty = false; volume = a +ᶠ sideVolume m s; weight = noWeight }) sum)
+        where
+          sum : t .volume ≡ sumVolumes m zeroF l
+          sum = ap (λ (k : Tally). k .volume) so-far ∙ (unfold tallyOf in ap (λ b. cond (not b && eqb (sidesRefusal m l) 0) (sumVolumes m zeroF l) zeroF) q ∙ ap (λ k. cond (eqb k 0) (sumVolumes m zeroF l) zeroF) none)
+
+          held : t .weight ≡ noWeight
+          held = ap (λ (k : Tally). k .weight) so-far ∙ (unfold tallyOf in ap (λ b. cond (b && eqb (sidesRefusal m l) 0) (weightOf m l) noWeight) q)
 
 -- the number of a side that is not refused, where none was before
 pub side-passed : (a b n : ℕ) → n ≡ (a then b) → n ≡ 0 → b ≡ 0
@@ -78,8 +99,8 @@ side-passed (suc a) b n e z = absurd (omega arith)
 -- ---- one face more, one shell more
 
 module _ (m : Model) (l : List Side) where
-  pub faces-none : (t : Tally) → t ≡ tallyOf m l → t ≡ tallyOf m (l ++ [])
-  faces-none t e = e ∙ ap (tallyOf m) (sym (append-nil l))
+  pub faces-none : (whole : Bool) (t : Tally) → t ≡ tallyOf whole m l → t ≡ tallyOf whole m (l ++ [])
+  faces-none whole t e = e ∙ ap (tallyOf whole m) (sym (append-nil l))
 
   pub faces-turn : (s : ℕ) (faces : List ℕ) (k : ℕ) → k < length faces
       → (l ++ map (λ f. record { shell = s; face = f }) (take k faces)) ++ (record { shell = s; face = getD faces k 0 } ∷ []) ≡ l ++ map (λ f. record { shell = s; face = f }) (take (k + 1) faces)

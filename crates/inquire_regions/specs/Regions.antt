@@ -1,6 +1,6 @@
 -- What is known of sides met one after the other, and which regions are whole. No reader of a public promise needs this file. Definitions only.
 use Prim.Native.Nat.{ℕ}
-use mathlib.Core.Bool.{Bool, cond, _&&_}
+use mathlib.Core.Bool.{Bool, not, cond, _&&_}
 use mathlib.Core.List.{List, []}
 use lib.Dec.{eqb}
 use lib.ListN.{length}
@@ -14,14 +14,17 @@ use Rattle.memory_layout.specs.Decode.{flagAt}
 use Rattle.memory_layout.specs.Entries.{listOf}
 use Rattle.walk_sources.specs.Sources.{followed}
 use Rattle.inquire_sides.specs.Sides.{faceWhole}
+use Rattle.inquire_weight.specs.Weights.{noWeight, weightOf}
 use Rattle.inquire_regions.specs.declared.Tally.{Tally}
 
-unfoldable pub tallyOf : Model → List Side → Tally
-tallyOf m l =
+-- in floats, or in whole numbers
+unfoldable pub tallyOf : Bool → Model → List Side → Tally
+tallyOf whole m l =
     record {
       refused = sidesRefusal m l;
       empty = eqb (length l) 0;
-      volume = cond (eqb (sidesRefusal m l) 0) (sumVolumes m zeroF l) zeroF;
+      volume = cond (not whole && eqb (sidesRefusal m l) 0) (sumVolumes m zeroF l) zeroF;
+      weight = cond (whole && eqb (sidesRefusal m l) 0) (weightOf m l) noWeight;
     }
 
 -- the sides of one region (`solidSides` of meaning)

@@ -1,6 +1,10 @@
-// Inner: the sides of a body's solid regions, met one after the other as they are listed (the loops of `body_volume`, inquire.rs).
+// Inner: the sides of a body's solid regions, met one after the other as they are listed (the loops of `body_volume`, inquire.rs): one path for the volume in floats and,
+// where it is `whole`, in whole numbers (W-201).
 use inquire_sides::side_refusal;
 use inquire_sides::side_volume;
+use inquire_weight::Weight;
+use inquire_weight::no_weight;
+use inquire_weight::with_weight;
 use memory_layout::layout::words_of;
 use memory_layout::names::AT_REGION_SOLID;
 use memory_layout::names::REGION_SHELLS;
@@ -9,7 +13,7 @@ use memory_layout::names::SHELL_FACES;
 use memory_lists::list;
 use split_segment::refusals::then;
 ghost use mathlib.Core.Path.{_≡_};
-ghost use mathlib.Core.Bool.{true};
+ghost use mathlib.Core.Bool.{Bool, true};
 ghost use mathlib.Core.List.{List, [], _∷_, _++_};
 ghost use Prim.Native.Nat.{_<_};
 ghost use lib.Dec.{ltb};
@@ -23,22 +27,23 @@ ghost use Rattle.memory_layout.specs.Fit.{Fit, Lists};
 ghost use Rattle.inquire_sides.specs.Sides.{faceWhole};
 ghost use Rattle.inquire_regions.specs.Regions.{tallyOf, facesWhole, solidShells, regionSides, regionWhole};
 
-// What is known of sides that were met: the first refusal, whether there are none, and the sum of their volumes, 0 where one is
-// refused.
+// What is known of sides that were met: the first refusal, whether there are none, and the sum of their volumes or their weight, nothing where one is refused.
 pub struct Tally {
     pub refused: u32,
     pub empty: bool,
     pub volume: f64,
+    pub weight: Weight,
 }
 
 // Of no side.
 fn none() -> Tally
-    ensures { λ r. ⌜ ((m : Model) → r ≡ tallyOf m []) ⌝ }
+    ensures { λ r. ⌜ ((whole : Bool) (m : Model) → r ≡ tallyOf whole m []) ⌝ }
 {
     Tally {
         refused: 0,
         empty: true,
         volume: 0.0,
+        weight: no_weight(),
     }
 }
 
@@ -47,13 +52,14 @@ fn with_side(
     room: &[usize; 10],
     words: &[u32],
     reals: &[f64],
+    whole: bool,
     shell: u32,
     face: usize,
     t: Tally,
 ) -> Tally
     requires { ⌜ Fit (now room) (now words) (now reals) ⌝ }
     requires { ⌜ faceWhole (now room) (now words) face ≡ true ⌝ }
-    ensures { λ r. ⌜ ((l : List Side) → t ≡ tallyOf (decode (now (room .entry)) (now (words .entry)) (now (reals .entry))) l → r ≡ tallyOf (decode (now (room .entry)) (now (words .entry)) (now (reals .entry))) (l ++ (record { shell = shell; face = face } ∷ []))) ⌝ }
+    ensures { λ r. ⌜ ((l : List Side) → t ≡ tallyOf whole (decode (now (room .entry)) (now (words .entry)) (now (reals .entry))) l → r ≡ tallyOf whole (decode (now (room .entry)) (now (words .entry)) (now (reals .entry))) (l ++ (record { shell = shell; face = face } ∷ []))) ⌝ }
 {
     let n = then(t.refused, side_refusal(room, words, shell, face));
     if n != 0 {
@@ -61,27 +67,45 @@ fn with_side(
             refused: n,
             empty: false,
             volume: 0.0,
+            weight: no_weight(),
+        };
+    }
+    let weight = t.weight;
+    if whole {
+        return Tally {
+            refused: 0,
+            empty: false,
+            volume: 0.0,
+            weight: with_weight(room, words, reals, shell, face, weight),
         };
     }
     Tally {
         refused: 0,
         empty: false,
         volume: t.volume + side_volume(room, words, reals, shell, face),
+        weight,
     }
 }
 
 // Of the faces that a shell lists.
-fn with_shell(room: &[usize; 10], words: &[u32], reals: &[f64], shell: u32, before: Tally) -> Tally
+fn with_shell(
+    room: &[usize; 10],
+    words: &[u32],
+    reals: &[f64],
+    whole: bool,
+    shell: u32,
+    before: Tally,
+) -> Tally
     requires { ⌜ Fit (now room) (now words) (now reals) ⌝ }
     requires { ⌜ shell < word (now words) SHELLS ⌝ }
     requires { ⌜ facesWhole (now room) (now words) shell ≡ true ⌝ }
-    ensures { λ r. ⌜ ((l : List Side) → before ≡ tallyOf (decode (now (room .entry)) (now (words .entry)) (now (reals .entry))) l → r ≡ tallyOf (decode (now (room .entry)) (now (words .entry)) (now (reals .entry))) (l ++ sidesOf (decode (now (room .entry)) (now (words .entry)) (now (reals .entry))) shell)) ⌝ }
+    ensures { λ r. ⌜ ((l : List Side) → before ≡ tallyOf whole (decode (now (room .entry)) (now (words .entry)) (now (reals .entry))) l → r ≡ tallyOf whole (decode (now (room .entry)) (now (words .entry)) (now (reals .entry))) (l ++ sidesOf (decode (now (room .entry)) (now (words .entry)) (now (reals .entry))) shell)) ⌝ }
 {
     let faces = list(room, words, SHELL_FACES, shell as usize);
     let mut t = before;
     let mut k = 0;
     while k < faces.len() {
-        t = with_side(room, words, reals, shell, faces[k] as usize, t);
+        t = with_side(room, words, reals, whole, shell, faces[k] as usize, t);
         k += 1;
     }
     t
@@ -92,18 +116,19 @@ fn with_shells(
     room: &[usize; 10],
     words: &[u32],
     reals: &[f64],
+    whole: bool,
     shells: &[u32],
     before: Tally,
 ) -> Tally
     requires { ⌜ Fit (now room) (now words) (now reals) ⌝ }
     requires { ⌜ all (λ s. ltb s (word (now words) SHELLS)) (now shells) ≡ true ⌝ }
     requires { ⌜ all (facesWhole (now room) (now words)) (now shells) ≡ true ⌝ }
-    ensures { λ r. ⌜ ((l : List Side) → before ≡ tallyOf (decode (now (room .entry)) (now (words .entry)) (now (reals .entry))) l → r ≡ tallyOf (decode (now (room .entry)) (now (words .entry)) (now (reals .entry))) (l ++ joined (sidesOf (decode (now (room .entry)) (now (words .entry)) (now (reals .entry)))) (now (shells .entry)))) ⌝ }
+    ensures { λ r. ⌜ ((l : List Side) → before ≡ tallyOf whole (decode (now (room .entry)) (now (words .entry)) (now (reals .entry))) l → r ≡ tallyOf whole (decode (now (room .entry)) (now (words .entry)) (now (reals .entry))) (l ++ joined (sidesOf (decode (now (room .entry)) (now (words .entry)) (now (reals .entry)))) (now (shells .entry)))) ⌝ }
 {
     let mut t = before;
     let mut k = 0;
     while k < shells.len() {
-        t = with_shell(room, words, reals, shells[k], t);
+        t = with_shell(room, words, reals, whole, shells[k], t);
         k += 1;
     }
     t
@@ -124,16 +149,22 @@ fn solid_shells<'a>(room: &[usize; 10], words: &'a [u32], region: usize) -> &'a 
 }
 
 // Of the regions, in order.
-pub fn regions_tally(room: &[usize; 10], words: &[u32], reals: &[f64], regions: &[u32]) -> Tally
+pub fn regions_tally(
+    room: &[usize; 10],
+    words: &[u32],
+    reals: &[f64],
+    whole: bool,
+    regions: &[u32],
+) -> Tally
     requires { ⌜ Fit (now room) (now words) (now reals) ⌝ }
     requires { ⌜ all (regionWhole (now room) (now words)) (now regions) ≡ true ⌝ }
-    ensures { λ r. ⌜ r ≡ tallyOf (decode (now (room .entry)) (now (words .entry)) (now (reals .entry))) (joined (regionSides (decode (now (room .entry)) (now (words .entry)) (now (reals .entry)))) (now (regions .entry))) ⌝ }
+    ensures { λ r. ⌜ r ≡ tallyOf whole (decode (now (room .entry)) (now (words .entry)) (now (reals .entry))) (joined (regionSides (decode (now (room .entry)) (now (words .entry)) (now (reals .entry)))) (now (regions .entry))) ⌝ }
 {
     let mut t = none();
     let mut k = 0;
     while k < regions.len() {
         let shells = solid_shells(room, words, regions[k] as usize);
-        t = with_shells(room, words, reals, shells, t);
+        t = with_shells(room, words, reals, whole, shells, t);
         k += 1;
     }
     t

@@ -25,7 +25,7 @@ ghost use Rattle.inquire_fin_starts.specs.Starts.{finWhole};
 ghost use Rattle.inquire_sides.specs.Sides.{isAt, boundNumber, rimOf, rimNumber, sideNumber, faceWhole};
 
 // Is it this id, at a place of a record: its tag, then the id?
-fn is_at(w: &[u32], at: usize, y: u32) -> bool
+pub fn is_at(w: &[u32], at: usize, y: u32) -> bool
     requires { ⌜ (at + 1 < length (now w)) × (at ≤ 2) ⌝ }
     ensures { λ r. ⌜ r ≡ isAt (now (w .entry)) at y ⌝ }
 {
@@ -54,7 +54,7 @@ fn bound_refusal(w: &[u32], loops: usize, shell: u32) -> u32
 }
 
 // The fins of a face's only loop.
-fn rim<'a>(room: &[usize; 10], words: &'a [u32], face: usize) -> &'a [u32]
+pub fn rim<'a>(room: &[usize; 10], words: &'a [u32], face: usize) -> &'a [u32]
     requires { ⌜ Lists (now room) (now words) ⌝ }
     requires { ⌜ faceWhole (now room) (now words) face ≡ true ⌝ }
     requires { ⌜ length (listOf (now room) (now words) FACE-LOOPS face) ≡ 1 ⌝ }

@@ -3,13 +3,14 @@ use Prim.Native.Nat.{ℕ, _^_}
 use mathlib.Core.Path.{_≡_, refl}
 use mathlib.Core.Bool.{true, false, cond}
 use mathlib.Core.List.{List, [], _∷_, _++_, map}
+use lib.IntN.{ℤ, pos}
 use lib.ListN.{length}
 use lib.Ieee.{Float, nan, binary64, toBits}
 use Rattle.interval_arithmetic.specs.Ops.{pointI, addI}
 use Rattle.float_vectors.specs.declared.vector.Point3.{Point3}
 use Rattle.meaning.specs.Floats.{_/ᶠ_, floatOf}
 use Rattle.meaning.specs.Model.{Model, solid, office-0, largest}
-use Rattle.meaning.specs.Refuse.{Answer, refused, given}
+use Rattle.meaning.specs.Refuse.{Answer, refused, given, answered}
 use Rattle.meaning.specs.Walks.{bodyFaces, bodyEdges, bodyVertices}
 use Rattle.meaning.specs.Inquire.{bodyBoundingBox, bodyVolume}
 use Rattle.meaning.specs.Split.{modelAfter, splitLineEdge}
@@ -18,12 +19,15 @@ use Rattle.meaning.specs.Formed.{wellFormed, topologicalReport}
 use Rattle.meaning.specs.Stone.{stone, aLoop, aRegion}
 use Rattle.meaning.specs.Blade.{Row, _gives_, withBody, withRegion, withLoop}
 use Rattle.meaning.specs.Computing.{computing}
+use Rattle.meaning_sheets.specs.Sheets.{sixVolume, stoneRefusal}
+use Rattle.meaning_sheets.specs.Counting.{counting}
 
 -- ---- what is asked, and what is told
 
 pub data Ask : Type 0 where
   walks-of : Model → Ask
   volume-of : Model → Ask
+  whole-of : Model → Ask
   box-of : Model → Ask
   split-A-at : Float → Ask
   faults-of : Model → Ask
@@ -34,6 +38,7 @@ pub data Told : Type 0 where
   refusal : ℕ → Told
   numbers : List ℕ → Told
   floats : List Float → Told
+  whole : ℤ → Told
 
 abbrev told : {A : Type 0} → (A → Told) → Answer A → Told
 told f (refused n) = refusal n
@@ -46,10 +51,11 @@ abbrev lengthOf : Answer (List ℕ) → ℕ
 lengthOf (refused n) = 0
 lengthOf (given l) = length l
 
--- the three walks' lengths; the volume; the two corners; the new vertex; the reasons of the faults, geometry on; 1 where the body is fit to saw; the bits of both bounds
+-- the three walks' lengths; the volume; six times it in cubic sixteenths (W-201); the two corners; the new vertex; the reasons of the faults, geometry on; 1 where the body is fit to saw; the bits of both bounds
 abbrev tell : Ask → Told
 tell (walks-of m) = numbers (lengthOf (bodyFaces m 0) ∷ lengthOf (bodyEdges m 0) ∷ lengthOf (bodyVertices m 0) ∷ [])
 tell (volume-of m) = told (λ v. floats (v ∷ [])) (bodyVolume m 0)
+tell (whole-of m) = told whole (answered (stoneRefusal m 0) (sixVolume m 0))
 tell (box-of m) = told (λ b. floats (coordinates (b .min) ++ coordinates (b .max))) (bodyBoundingBox m 0)
 tell (split-A-at t) =
     told (λ s. floats (coordinates (modelAfter largest stone 0 t .vertices .slot (s .vertex) .point))) (splitLineEdge largest stone 0 t)
@@ -75,6 +81,7 @@ abbrev pub rows : List (Row Ask Told)
 rows =
     (walks-of stone gives numbers (6 ∷ 12 ∷ 8 ∷ []))
     ∷ (volume-of stone gives floats (floatOf 24 ∷ []))
+    ∷ (whole-of stone gives whole (pos 589824))
     ∷ (box-of stone gives floats (floatOf 0 ∷ floatOf 0 ∷ floatOf 0 ∷ floatOf 4 ∷ floatOf 3 ∷ floatOf 2 ∷ []))
     ∷ (split-A-at (part 2) gives floats (floatOf 1 ∷ floatOf 0 ∷ floatOf 0 ∷ []))
     ∷ (split-A-at (floatOf 0) gives refusal 1)
@@ -85,12 +92,13 @@ rows =
     ∷ (faults-of finStruck gives numbers (18 ∷ []))
     ∷ (faults-of hollow gives numbers [])
     ∷ (volume-of hollow gives refusal 4)
+    ∷ (whole-of hollow gives refusal 4)
     ∷ (fit-of hollow gives numbers (0 ∷ []))
     ∷ (sum-of 1 2 gives numbers (0x4008_0000_0000_0000 ∷ 0x4008_0000_0000_0000 ∷ []))
     ∷ []
 
 pub rows-hold : map (λ r. tell (r .input)) rows ≡ map (λ r. r .result) rows
-unfolding computing
+unfolding computing counting
 rows-hold = refl
 
 -- ---- the stone before and after A is split at 0.25

@@ -14,6 +14,7 @@ use Rattle.meaning.specs.Walks.{facesRefusal, edgesRefusal, edgeVertices, verti
 use Rattle.meaning.specs.Inquire.{requirePolyhedral, boxRefusal, volumeRefusal}
 use Rattle.meaning.specs.Faults.{CheckOptions, findings, reportOf, checkRefusal, checkBody, fitToSaw}
 use Rattle.meaning.specs.Offices.{officeNumber, foreign, bodyFor}
+use Rattle.meaning_sheets.specs.Sheets.{stoneRefusal}
 use Rattle.meaning_list_laws.specs.Tests.{and-both}
 use Rattle.meaning_list_laws.specs.Lists.{member-one}
 use Rattle.meaning_isolation.specs.Reached.{named, regionsMet, shellsMet, facesMet, loopsMet, finsMet, finsSeen, edgesMet, verticesMet, curvesMet, surfacesMet, Agree, Alike}
@@ -78,6 +79,10 @@ module _ (m : Model) (b : ℕ) (gone : has (m .bodies) b ≡ false) where
   unfolding volumeRefusal
   volume-none = rw polyhedral-none
 
+  stone-none : stoneRefusal m b ≡ 2
+  unfolding stoneRefusal
+  stone-none = rw volume-none
+
   report-none : (c : CheckOptions) → checkBody m c b ≡ refused (1 unless leb (c .edgeSamples) 255 then 2)
   unfolding checkRefusal
   report-none c = rw gone (go (leb (c .edgeSamples) 255))
@@ -98,6 +103,7 @@ module _ (m : Model) (b : ℕ) (gone : has (m .bodies) b ≡ false) where
         vertices = rw vertices-none;
         box = rw box-none;
         volume = rw volume-none;
+        stone = rw stone-none;
         report = report-none;
         fit = fit-none;
       }
@@ -111,6 +117,7 @@ gone-same m n b c g h =
       vertices = g .vertices ∙ sym (h .vertices);
       box = g .box ∙ sym (h .box);
       volume = g .volume ∙ sym (h .volume);
+      stone = g .stone ∙ sym (h .stone);
       report = λ o. g .report o ∙ sym (h .report o);
       fit = g .fit ∙ sym (h .fit);
     }

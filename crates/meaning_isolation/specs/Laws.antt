@@ -13,7 +13,7 @@ use Rattle.geom_carriers.specs.declared.Carrier.{Carrier}
 use Rattle.geom_carriers.specs.declared.Found.the-variants.{There, Missing}
 use Rattle.meaning.specs.Lists.{run, all, any, joined, member, listed, the, isSome}
 use Rattle.meaning.specs.Model.{Table, has, carrierAt}
-use Rattle.meaning.specs.Refuse.{answered, firstOf}
+use Rattle.meaning.specs.Refuse.{Answer, refused, given, answered, firstOf}
 use Rattle.meaning_list_laws.specs.Tests.{then-zero}
 use Rattle.meaning_list_laws.specs.Lists.{member-append, member-none, member-cons, member-head, member-tail, member-counted, count-run-in, all-member, fold-in}
 use Rattle.meaning_isolation.specs.Reached.{named, Agree}
@@ -47,6 +47,25 @@ answered-same a a′ x x′ e f = rw (← e) (go a f)
     go : (a : ℕ) → (a ≡ 0 → x ≡ x′) → answered a x ≡ answered a x′
     go zero f = ap (answered 0) (f refl)
     go (suc n) f = refl
+
+-- and what two such answers are made of
+abbrev numberIn : {A : Type 0} → Answer A → ℕ
+numberIn (refused n) = n
+numberIn (given x) = 0
+
+abbrev valueIn : {A : Type 0} → A → Answer A → A
+valueIn y (refused n) = y
+valueIn y (given x) = x
+
+pub answered-number : {A : Type 0} (a a′ : ℕ) (x x′ : A) → answered a x ≡ answered a′ x′ → a ≡ a′
+answered-number a a′ x x′ e = sym (number a x) ∙ ap numberIn e ∙ number a′ x′
+  where
+    number : {A : Type 0} (a : ℕ) (x : A) → numberIn (answered a x) ≡ a
+    number zero x = refl
+    number (suc a) x = refl
+
+pub answered-value : {A : Type 0} (a a′ : ℕ) (x x′ : A) → answered a x ≡ answered a′ x′ → a ≡ 0 → x ≡ x′
+answered-value a a′ x x′ e z = sym (ap (λ n. valueIn x (answered n x)) z) ∙ ap (valueIn x) e ∙ ap (λ n. valueIn x (answered n x′)) (sym (answered-number a a′ x x′ e) ∙ z)
 
 -- ---- members
 

@@ -3,6 +3,7 @@ pub mod Told
 pub mod Laws
 pub mod Walked
 pub mod Measured
+pub mod Weighed
 pub mod Reported
 pub mod Offices
 pub mod Asked

@@ -1,7 +1,7 @@
 -- Box and volume of a body in two models that are alike from it on. Assumes nothing.
 use Prim.Native.Nat.{ℕ}
 use native.Mathlib.Omega.{arith}
-use mathlib.Core.Path.{_≡_, refl, ap, _∙_}
+use mathlib.Core.Path.{_≡_, refl, ap, ap₂, _∙_}
 use mathlib.Core.Bool.{Bool, true, false, cond, _&&_}
 use mathlib.Core.List.{List, [], _∷_, _++_, map, reverse}
 use lib.Dec.{eqb, ltb}
@@ -18,6 +18,7 @@ use Rattle.meaning.specs.Model.{Model, Sense, positive, negative, Body, Region,
 use Rattle.meaning.specs.Refuse.{firstOf, _if_}
 use Rattle.meaning.specs.Walks.{shellsOf, faceWalk, facesRefusal, faceEdges, edgeWalk, edgesRefusal, vertexWalk, verticesRefusal, edgeVertices, Ends, directed, endsOf}
 use Rattle.meaning.specs.Inquire.{flatFace, straightEdge, requirePolyhedral, boxOf, boxRefusal, bodyBoundingBox, isSolid, Side, sidesOf, solidSides, outward, inward, alike, rim, startOf, startRefusal, sideRefusal, sidesRefusal, volumeRefusal, polygonVolume, sideVolume, sumVolumes, bodyVolume}
+use Rattle.meaning_sheets.specs.Sheets.{sidePoints}
 use Rattle.meaning_list_laws.specs.Tests.{and-both, then-zero, unless-zero}
 use Rattle.meaning_list_laws.specs.Lists.{member-nth, member-firsts, member-head, member-tail, all-member}
 use Rattle.meaning_isolation.specs.Reached.{facesMet, edgesMet, verticesMet, curvesMet, surfacesMet, Alike}
@@ -26,7 +27,7 @@ use Rattle.meaning_isolation.specs.Walked as Walked
 
 -- ---- sides whose faces stand in a walk
 
-abbrev sidesIn : List ℕ → List Side → Bool
+abbrev pub sidesIn : List ℕ → List Side → Bool
 sidesIn w [] = true
 sidesIn w (s ∷ l) = member (s .face) w && sidesIn w l
 
@@ -146,7 +147,7 @@ module _ (m n : Model) (b : ℕ) (a : Alike m n b) where
     sides-of-same : (s : ℕ) → member s (shellsOf m b) ≡ true → sidesOf m s ≡ sidesOf n s
     sides-of-same s g = ap (λ (d : Shell). map (λ f. record { shell = s; face = f }) (d .faces)) (Walked.shell-same m n b a faces-walked s g)
 
-    sides-same : solidSides m b ≡ solidSides n b
+    pub sides-same : solidSides m b ≡ solidSides n b
     unfolding solidSides
     sides-same =
         joined-alike (λ r. cond (region m r .solid) (joined (sidesOf m) (region m r .shells)) []) (λ r. cond (region n r .solid) (joined (sidesOf n) (region n r .shells)) []) (body m b .regions)
@@ -159,7 +160,7 @@ module _ (m n : Model) (b : ℕ) (a : Alike m n b) where
     unfolding faceWalk
     face-listed s f g q = member-firsts f (joined (λ s. shell m s .faces) (shellsOf m b)) ∙ joined-in (λ s. shell m s .faces) (shellsOf m b) s f g q
 
-    sides-walked : sidesIn (faceWalk m b) (solidSides m b) ≡ true
+    pub sides-walked : sidesIn (faceWalk m b) (solidSides m b) ≡ true
     unfolding solidSides
     sides-walked =
         sides-joined (faceWalk m b) (λ r. cond (region m r .solid) (joined (sidesOf m) (region m r .shells)) []) (body m b .regions)
@@ -229,19 +230,28 @@ module _ (m n : Model) (b : ℕ) (a : Alike m n b) where
           then-same (4 if ltb (length (rim m (s .face))) 3) (4 if ltb (length (rim n (s .face))) 3) _ _ (ap (λ (l : List ℕ). 4 if ltb (length l) 3) (rim-same (s .face) g one))
           (λ _. firstOf-alike (startRefusal m) (startRefusal n) (rim m (s .face)) (start-refused (s .face) g one) ∙ ap (firstOf (startRefusal n)) (rim-same (s .face) g one))))
 
-      pub side-volume : sideRefusal m s ≡ 0 → sideVolume m s ≡ sideVolume n s
-      unfolding sideRefusal sideVolume
-      side-volume y =
-          let p = then-zero (1 if alike (outward m s) (inward m s)) _ y .1 in
-          let q = then-zero (7 unless eqb (length (face m (s .face) .loops)) 1) _ p in
-          let one = unless-zero 6 (eqb (length (face m (s .face) .loops)) 1) (q .0) in
-          let starts = then-zero (4 if ltb (length (rim m (s .face))) 3) (firstOf (startRefusal m) (rim m (s .face))) (q .1) .1 in
-          let points =
-          map-alike (λ i. pointOf m (the (startOf m i))) (λ i. pointOf n (the (startOf n i))) (rim m (s .face))
-          (λ i r. start-point (s .face) g one i r (firstOf-zero (startRefusal m) (rim m (s .face)) i starts r))
-          ∙ ap (map (λ i. pointOf n (the (startOf n i)))) (rim-same (s .face) g one) in
-          ap (λ (l : List Point3). polygonVolume (cond (inward m s) (reverse l) l)) points
-          ∙ ap (λ (d : Face). polygonVolume (cond (is (d .front) (s .shell)) (reverse (map (λ i. pointOf n (the (startOf n i))) (rim n (s .face)))) (map (λ i. pointOf n (the (startOf n i))) (rim n (s .face))))) whole
+      -- where it is not refused: its fins, the points of its fan and its volume
+      module _ (y : sideRefusal m s ≡ 0) where
+        looped : (eqb (length (face m (s .face) .loops)) 1 ≡ true) × (firstOf (startRefusal m) (rim m (s .face)) ≡ 0)
+        unfolding sideRefusal
+        looped =
+            let q = then-zero (7 unless eqb (length (face m (s .face) .loops)) 1) _ (then-zero (1 if alike (outward m s) (inward m s)) _ y .1) in
+            (unless-zero 6 (eqb (length (face m (s .face) .loops)) 1) (q .0), then-zero (4 if ltb (length (rim m (s .face))) 3) _ (q .1) .1)
+
+        pub fins-same : rim m (s .face) ≡ rim n (s .face)
+        fins-same = rim-same (s .face) g (looped .0)
+
+        pub points-same : sidePoints m s ≡ sidePoints n s
+        unfolding sidePoints
+        points-same =
+            ap₂ (λ (b : Bool) (l : List Point3). cond b (reverse l) l) (ap (λ (d : Face). is (d .front) (s .shell)) whole)
+            (map-alike (λ i. pointOf m (the (startOf m i))) (λ i. pointOf n (the (startOf n i))) (rim m (s .face))
+            (λ i r. start-point (s .face) g (looped .0) i r (firstOf-zero (startRefusal m) (rim m (s .face)) i (looped .1) r))
+            ∙ ap (map (λ i. pointOf n (the (startOf n i)))) fins-same)
+
+        pub side-volume : sideVolume m s ≡ sideVolume n s
+        unfolding sideVolume sidePoints
+        side-volume = ap polygonVolume points-same
 
     sides-refused : (l : List Side) → sidesIn (faceWalk m b) l ≡ true → sidesRefusal m l ≡ sidesRefusal n l
     unfolding sidesRefusal
@@ -258,7 +268,7 @@ module _ (m n : Model) (b : ℕ) (a : Alike m n b) where
         let p = then-zero (sideRefusal m s) (sidesRefusal m l) y in
         volumes-same l (acc +ᶠ sideVolume m s) (t .1) (p .1) ∙ ap (λ (v : Float). sumVolumes n (acc +ᶠ v) l) (side-volume s (t .0) (p .0))
 
-  volume-refused : volumeRefusal m b ≡ volumeRefusal n b
+  pub volume-refused : volumeRefusal m b ≡ volumeRefusal n b
   unfolding volumeRefusal
   volume-refused =
       then-same (requirePolyhedral m b) (requirePolyhedral n b) _ _ polyhedral-same
@@ -268,12 +278,17 @@ module _ (m n : Model) (b : ℕ) (a : Alike m n b) where
       (sides-refused z (solidSides m b) (sides-walked z) ∙ ap (sidesRefusal n) (sides-same z))
       (λ _. ap (λ (l : List Side). 4 if eqb (length l) 0) (sides-same z))))
 
-  volume-value : volumeRefusal m b ≡ 0 → sumVolumes m zeroF (solidSides m b) ≡ sumVolumes n zeroF (solidSides n b)
+  -- a volume that is given is one of flat faces and straight edges, none of whose sides is refused
+  pub volume-given : volumeRefusal m b ≡ 0 → (requirePolyhedral m b ≡ 0) × (sidesRefusal m (solidSides m b) ≡ 0)
   unfolding volumeRefusal
-  volume-value y =
+  volume-given y =
       let p = then-zero (requirePolyhedral m b) _ y in
-      let q = then-zero (sidesRefusal m (solidSides m b)) _ (then-zero (6 unless isSolid (body m b .kind)) _ (p .1) .1) .0 in
-      volumes-same (p .0) (solidSides m b) zeroF (sides-walked (p .0)) q ∙ ap (sumVolumes n zeroF) (sides-same (p .0))
+      (p .0, then-zero (sidesRefusal m (solidSides m b)) _ (then-zero (6 unless isSolid (body m b .kind)) _ (p .1) .1) .0)
+
+  volume-value : volumeRefusal m b ≡ 0 → sumVolumes m zeroF (solidSides m b) ≡ sumVolumes n zeroF (solidSides n b)
+  volume-value y =
+      let p = volume-given y in
+      volumes-same (p .0) (solidSides m b) zeroF (sides-walked (p .0)) (p .1) ∙ ap (sumVolumes n zeroF) (sides-same (p .0))
 
   pub volume-same : bodyVolume m b ≡ bodyVolume n b
   volume-same = answered-same (volumeRefusal m b) (volumeRefusal n b) _ _ volume-refused volume-value

@@ -3,14 +3,17 @@
 use Prim.Native.Nat.{ℕ}
 use mathlib.Core.Path.{_≡_, _∙_}
 use mathlib.Core.Bool.{true}
+use mathlib.Core.List.{List}
 use Rattle.meaning.specs.Model.{Model, has}
 use Rattle.meaning.specs.Offices.{foreign, bodyFor}
+use Rattle.meaning_sheets.specs.Sheets.{Sheet, afterTakes}
 use Rattle.meaning_isolation.specs.Reached.{Alike}
-use Rattle.meaning_isolation.specs.Told.{SameAnswers, NoSuchBody}
+use Rattle.meaning_isolation.specs.Told.{askedBy, SameAnswers, NoSuchBody}
 use Rattle.meaning_isolation.specs.Offices.{own, OfficeAlike, OthersDiffer}
 use Rattle.meaning_isolation.specs.Asked.{there-for, foreign-other, no-such-body, told-by, others-alike}
 use Rattle.meaning_isolation.specs.Walked as Walked
 use Rattle.meaning_isolation.specs.Measured as Measured
+use Rattle.meaning_isolation.specs.Weighed as Weighed
 use Rattle.meaning_isolation.specs.Reported as Reported
 
 -- two models that are alike from the body on, well formed or not
@@ -22,6 +25,7 @@ alike-answers m n b a =
       vertices = Walked.vertices-same m n b a;
       box = Measured.box-same m n b a;
       volume = Measured.volume-same m n b a;
+      stone = Weighed.stone-same m n b a;
       report = Reported.report-same m n b a;
       fit = Reported.fit-same m n b a;
     }
@@ -44,3 +48,7 @@ office-answers m n o a b = told-by m n o b (a .own-same b) (λ h. alike-answers 
 -- bodies names a record in both cases or in neither" (`OthersDiffer`: Offices.antt)
 pub others-make-no-difference : (m n : Model) (o : ℕ) → OthersDiffer m n o → (b : ℕ) → SameAnswers m n (bodyFor m o b) (bodyFor n o b)
 others-make-no-difference m n o d = office-answers m n o (others-alike m n o d)
+
+-- and so is the stone sheet behind any bodies that the office takes in (W-201), whatever sheet it began with
+pub others-leave-the-sheet : (m n : Model) (o : ℕ) → OthersDiffer m n o → (l : List ℕ) (h : Sheet) → afterTakes m (askedBy o l) h ≡ afterTakes n (askedBy o l) h
+others-leave-the-sheet m n o d = Weighed.takes-same m n o (λ b. others-make-no-difference m n o d b .stone)

@@ -5,4 +5,5 @@ pub mod Entries
 pub mod Limits
 pub mod Tables
 pub mod Offices
+pub mod Sheets
 pub mod Isolated

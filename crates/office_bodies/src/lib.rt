@@ -2,8 +2,8 @@
 // `memory_contains`, `memory_lists` and `edit_lists` answer, of a body as it is for that office. specs/Answers.antt says what each answers and leaves.
 // (`insert_body` is in `edit_inserts`, `set_body` in `edit_sets`.) Inner: `entity_for` and `record_for`.
 //
-// The family office_: the calls about a body, by the drawing office that asks (W-206). Call office_bodies, office_walks or office_views, office_measures; each is a test of the office in front of
-// the call of before. Read crates/meaning/specs/Offices.antt and memory_offices first. The split, which names its office too, is in split_.
+// The family office_: the calls about a body, by the drawing office that asks (W-206). Call office_bodies, office_walks or office_views, office_measures, office_sheets or office_sheet_lent; each is a test of the office
+// in front of a call by id. Read crates/meaning/specs/Offices.antt and memory_offices first. The split, which names its office too, is in split_.
 use memory_contains::Contained;
 use memory_contains::EntityRef;
 use memory_layout::entries::Entry;

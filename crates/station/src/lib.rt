@@ -7,5 +7,6 @@ pub mod lookups;
 pub mod measuring;
 pub mod models;
 pub mod setting;
+pub mod sheets;
 pub mod spans;
 pub mod walking;

@@ -12,10 +12,13 @@ use office_measures::body_bounding_box;
 use office_measures::body_volume;
 use office_measures::check_body;
 use office_measures::fit_to_saw;
+use office_sheets::TakenIn;
+use office_sheets::taken;
 use office_views::body_edges;
 use office_views::body_faces;
 use office_views::body_vertices;
 use replay_digits::bits_of;
+use sheet_words::StoneSheet;
 use split_edge::split_line_edge;
 use station_answers::BoxFound;
 use station_answers::Checked;
@@ -150,6 +153,37 @@ fn volume(words: &[u32; 8379], reals: &[f64; 158]) {
         Volume::Is(v) => print_float(v),
         Volume::Refused(n) => print_refusal(n),
     }
+    io::write_all(1, b"\n");
+}
+
+fn print_sheet(s: StoneSheet) {
+    io::write_all(1, b" ");
+    io::print_decimal(1, s.low);
+    io::write_all(1, b", ");
+    io::print_decimal(1, s.stones);
+    io::write_all(1, b" stones");
+}
+
+fn print_taken(t: TakenIn) {
+    if t.refused != 0 {
+        print_refusal(t.refused);
+    } else {
+        print_sheet(t.sheet);
+    }
+}
+
+// Body 0 taken in on a new sheet: the lower word of the total, and the number of stones.
+fn whole(words: &[u32; 8379], reals: &[f64; 158]) {
+    let mut marks = [0u8; 6];
+    let blank = StoneSheet {
+        stones: 0,
+        low: 0,
+        high: 0,
+        body: 0,
+        largest: 0,
+    };
+    io::write_all(1, b"whole:");
+    print_taken(taken(&ROOM, &words[..], &reals[..], OFFICE, 0, &mut marks, blank));
     io::write_all(1, b"\n");
 }
 
@@ -315,6 +349,7 @@ fn main() {
     trial_stone(&ROOM, &mut words, &mut reals);
     walks(&words, &reals);
     volume(&words, &reals);
+    whole(&words, &reals);
     corners(&words, &reals);
     splits(&mut words, &mut reals);
     trial_stone(&ROOM, &mut words, &mut reals);
@@ -328,6 +363,8 @@ fn main() {
     report(&words, &reals);
     io::write_all(1, b"a void region only; ");
     volume(&words, &reals);
+    io::write_all(1, b"a void region only; ");
+    whole(&words, &reals);
     io::write_all(1, b"a void region only; ");
     verdict(&words, &reals);
     sum();

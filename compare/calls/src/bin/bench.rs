@@ -58,12 +58,40 @@ fn on_a_copy<T: Clone>(whole: &T, mut call: impl FnMut(&mut T)) -> Duration {
     both.saturating_sub(copying)
 }
 
+/// The stone taken onto a sheet (W-201), on the same model with its points moved onto the grid: beside the Rust's float volume, and beside ours.
+fn whole_number(model: &Model, names: &Names, lent: &Lent) {
+    let mut plain = original::read(model, names);
+    for x in plain.vertices.iter_mut().flat_map(|r| &mut r.point) {
+        *x = (*x * 16.0).round() / 16.0;
+    }
+    let lent = Lent::holding(&plain, lent.room, 0, 0.0);
+    let gridded = original::build(&mut plain, names).expect("the Rust makes it");
+    let rust = time(|| drop(black_box(body_volume(&gridded, names.bodies[0]))));
+    // A new sheet each time, and marks as for the volume.
+    let ours = time(|| {
+        let mut sheet = [0; 5];
+        let [mut faces, ..] = lent.marks(0);
+        assert_eq!(black_box(&lent).take(0, &mut faces, &mut sheet), 0, "a stone on the grid");
+        black_box(sheet);
+    });
+    row("whole number", rust, ours);
+    let volume = time(|| drop(black_box(lent.volume(0, 0))));
+    println!(
+        "  {:24} volume {:>7.3} us, ours {:>9.3} us, ratio {:.3}",
+        "whole number by volume",
+        micro(volume),
+        micro(ours),
+        ours.as_secs_f64() / volume.as_secs_f64()
+    );
+}
+
 fn larger(model: &Model, names: &Names, lent: &Lent) {
     let body = names.bodies[0];
     let rust = time(|| drop(black_box(body_bounding_box(model, body))));
     row("box", rust, time(|| drop(black_box(lent.bounding_box(0, 0)))));
     let rust = time(|| drop(black_box(body_volume(model, body))));
     row("volume", rust, time(|| drop(black_box(lent.volume(0, 0)))));
+    whole_number(model, names, lent);
     for (what, geometry) in [("report, topology", false), ("report, 3 samples", true)] {
         let options = CheckOptions { geometry, edge_samples: 3 };
         let rust = time(|| drop(black_box(check_body(model, body, &options))));

@@ -15,10 +15,10 @@ use Rattle.inquire_regions.proofs.regions_tally.Statement.{statement}
 use Rattle.inquire_regions.proofs.regions_tally.Tie as tie
 
 abbrev Inv-loop : tie.InvT-loop
-Inv-loop room words reals regions t₀ k₀ t k = (k ≤ length regions) × (t ≡ tallyOf (decode room words reals) (joined (regionSides (decode room words reals)) (take k regions)))
+Inv-loop room words reals whole regions t₀ k₀ t k = (k ≤ length regions) × (t ≡ tallyOf whole (decode room words reals) (joined (regionSides (decode room words reals)) (take k regions)))
 
 abbrev μ-loop : tie.MeasureT-loop
-μ-loop room words reals regions t₀ k₀ t k = length regions - k
+μ-loop room words reals whole regions t₀ k₀ t k = length regions - k
 
 none-requires : tie.Need-none-requires Inv-loop μ-loop
 none-requires c κs = search needs
@@ -27,7 +27,7 @@ loop-holds : tie.Need-loop-holds Inv-loop μ-loop
 unfolding joined
 loop-holds c =
     let s = c .before .before .before .before in
-    (omega arith, c .none .ensures (decode (s .args .room .now) (s .args .words .now) (s .args .reals .now)))
+    (omega arith, c .none .ensures (s .args .whole) (decode (s .args .room .now) (s .args .words .now) (s .args .reals .now)))
 
 mul-solid-shells : tie.Need-mul-solid-shells Inv-loop μ-loop
 mul-solid-shells c = omega arith
@@ -64,12 +64,12 @@ loop-again : tie.Need-loop-again Inv-loop μ-loop
 loop-again c =
     let s = c .before .before .before .before .before .before .before .before .before in
     let k = c .before .before .before .before .loop .k in
-    (omega arith, c .with-shells .ensures (joined (regionSides (decode (s .args .room .now) (s .args .words .now) (s .args .reals .now))) (take k (s .args .regions .now))) (c .before .before .before .before .loop .inv .1) ∙ ap (tallyOf (decode (s .args .room .now) (s .args .words .now) (s .args .reals .now))) (regions-turn (s .args .room .now) (s .args .words .now) (s .args .reals .now) (s .args .regions .now) _ k (omega arith) (c .before .solid-shells .ensures)))
+    (omega arith, c .with-shells .ensures (joined (regionSides (decode (s .args .room .now) (s .args .words .now) (s .args .reals .now))) (take k (s .args .regions .now))) (c .before .before .before .before .loop .inv .1) ∙ ap (tallyOf (s .args .whole) (decode (s .args .room .now) (s .args .words .now) (s .args .reals .now))) (regions-turn (s .args .room .now) (s .args .words .now) (s .args .reals .now) (s .args .regions .now) _ k (omega arith) (c .before .solid-shells .ensures)))
 
 returns : tie.Need-returns Inv-loop μ-loop
 returns c =
     let s = c .before .before .before .before .before .before in
-    c .before .loop .inv .1 ∙ ap (λ t. tallyOf (decode (s .args .room .now) (s .args .words .now) (s .args .reals .now)) (joined (regionSides (decode (s .args .room .now) (s .args .words .now) (s .args .reals .now))) t)) (take-all (c .before .loop .k) (s .args .regions .now) (omega arith))
+    c .before .loop .inv .1 ∙ ap (λ t. tallyOf (s .args .whole) (decode (s .args .room .now) (s .args .words .now) (s .args .reals .now)) (joined (regionSides (decode (s .args .room .now) (s .args .words .now) (s .args .reals .now))) t)) (take-all (c .before .loop .k) (s .args .regions .now) (omega arith))
 
 pub regions-tally-spec : {M : Type 1} → statement M
 regions-tally-spec =

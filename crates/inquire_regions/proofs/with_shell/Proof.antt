@@ -17,10 +17,10 @@ use Rattle.inquire_regions.proofs.with_shell.Statement.{statement}
 use Rattle.inquire_regions.proofs.with_shell.Tie as tie
 
 abbrev Inv-loop : tie.InvT-loop
-Inv-loop room words reals shell faces t₀ k₀ t k = (k ≤ length faces) × ((l : List Side) → t₀ ≡ tallyOf (decode room words reals) l → t ≡ tallyOf (decode room words reals) (l ++ map (λ f. record { shell = shell; face = f }) (take k faces)))
+Inv-loop room words reals whole shell faces t₀ k₀ t k = (k ≤ length faces) × ((l : List Side) → t₀ ≡ tallyOf whole (decode room words reals) l → t ≡ tallyOf whole (decode room words reals) (l ++ map (λ f. record { shell = shell; face = f }) (take k faces)))
 
 abbrev μ-loop : tie.MeasureT-loop
-μ-loop room words reals shell faces t₀ k₀ t k = length faces - k
+μ-loop room words reals whole shell faces t₀ k₀ t k = length faces - k
 
 list-requires : tie.Need-list-requires Inv-loop μ-loop
 list-requires c κs =
@@ -30,7 +30,7 @@ list-requires c κs =
 loop-holds : tie.Need-loop-holds Inv-loop μ-loop
 loop-holds c =
     let s = c .before .before .before in
-    (omega arith, λ l e. faces-none (decode (s .args .room .now) (s .args .words .now) (s .args .reals .now)) l _ e)
+    (omega arith, λ l e. faces-none (decode (s .args .room .now) (s .args .words .now) (s .args .reals .now)) l (s .args .whole) _ e)
 
 mul-with-side : tie.Need-mul-with-side Inv-loop μ-loop
 mul-with-side c = omega arith
@@ -58,12 +58,12 @@ loop-again c =
     let s = c .before .before .before .before .before .before .before in
     let k = c .before .before .before .loop .k in
     let faces = c .before .before .before .before .list .result .now in
-    (omega arith, λ l e. c .with-side .ensures (l ++ map (λ f. record { shell = s .args .shell; face = f }) (take k faces)) (c .before .before .before .loop .inv .1 l e) ∙ ap (tallyOf (decode (s .args .room .now) (s .args .words .now) (s .args .reals .now))) (faces-turn (decode (s .args .room .now) (s .args .words .now) (s .args .reals .now)) l (s .args .shell) faces k (omega arith)))
+    (omega arith, λ l e. c .with-side .ensures (l ++ map (λ f. record { shell = s .args .shell; face = f }) (take k faces)) (c .before .before .before .loop .inv .1 l e) ∙ ap (tallyOf (s .args .whole) (decode (s .args .room .now) (s .args .words .now) (s .args .reals .now))) (faces-turn (decode (s .args .room .now) (s .args .words .now) (s .args .reals .now)) l (s .args .shell) faces k (omega arith)))
 
 returns : tie.Need-returns Inv-loop μ-loop
 returns c =
     let s = c .before .before .before .before .before in
-    λ l e. c .before .loop .inv .1 l e ∙ ap (λ t. tallyOf (decode (s .args .room .now) (s .args .words .now) (s .args .reals .now)) (l ++ map (λ f. record { shell = s .args .shell; face = f }) t)) (take-all (c .before .loop .k) (c .before .before .list .result .now) (omega arith) ∙ c .before .before .list .ensures) ∙ ap (λ t. tallyOf (decode (s .args .room .now) (s .args .words .now) (s .args .reals .now)) (l ++ t)) (sides-list (s .args .room .now) (s .args .words .now) (s .args .reals .now) (s .args .shell))
+    λ l e. c .before .loop .inv .1 l e ∙ ap (λ t. tallyOf (s .args .whole) (decode (s .args .room .now) (s .args .words .now) (s .args .reals .now)) (l ++ map (λ f. record { shell = s .args .shell; face = f }) t)) (take-all (c .before .loop .k) (c .before .before .list .result .now) (omega arith) ∙ c .before .before .list .ensures) ∙ ap (λ t. tallyOf (s .args .whole) (decode (s .args .room .now) (s .args .words .now) (s .args .reals .now)) (l ++ t)) (sides-list (s .args .room .now) (s .args .words .now) (s .args .reals .now) (s .args .shell))
 
 pub with-shell-spec : {M : Type 1} → statement M
 with-shell-spec =

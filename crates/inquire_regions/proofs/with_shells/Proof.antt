@@ -17,16 +17,16 @@ use Rattle.inquire_regions.proofs.with_shells.Statement.{statement}
 use Rattle.inquire_regions.proofs.with_shells.Tie as tie
 
 abbrev Inv-loop : tie.InvT-loop
-Inv-loop room words reals shells t₀ k₀ t k = (k ≤ length shells) × ((l : List Side) → t₀ ≡ tallyOf (decode room words reals) l → t ≡ tallyOf (decode room words reals) (l ++ joined (sidesOf (decode room words reals)) (take k shells)))
+Inv-loop room words reals whole shells t₀ k₀ t k = (k ≤ length shells) × ((l : List Side) → t₀ ≡ tallyOf whole (decode room words reals) l → t ≡ tallyOf whole (decode room words reals) (l ++ joined (sidesOf (decode room words reals)) (take k shells)))
 
 abbrev μ-loop : tie.MeasureT-loop
-μ-loop room words reals shells t₀ k₀ t k = length shells - k
+μ-loop room words reals whole shells t₀ k₀ t k = length shells - k
 
 loop-holds : tie.Need-loop-holds Inv-loop μ-loop
 unfolding joined
 loop-holds c =
     let s = c .before .before .before in
-    (omega arith, λ l e. faces-none (decode (s .args .room .now) (s .args .words .now) (s .args .reals .now)) l _ e)
+    (omega arith, λ l e. faces-none (decode (s .args .room .now) (s .args .words .now) (s .args .reals .now)) l (s .args .whole) _ e)
 
 mul-with-shell : tie.Need-mul-with-shell Inv-loop μ-loop
 mul-with-shell c = omega arith
@@ -50,12 +50,12 @@ loop-again : tie.Need-loop-again Inv-loop μ-loop
 loop-again c =
     let s = c .before .before .before .before .before .before .before in
     let k = c .before .before .before .loop .k in
-    (omega arith, λ l e. c .with-shell .ensures (l ++ joined (sidesOf (decode (s .args .room .now) (s .args .words .now) (s .args .reals .now))) (take k (s .args .shells .now))) (c .before .before .before .loop .inv .1 l e) ∙ ap (tallyOf (decode (s .args .room .now) (s .args .words .now) (s .args .reals .now))) (shells-turn (decode (s .args .room .now) (s .args .words .now) (s .args .reals .now)) l (s .args .shells .now) k (omega arith)))
+    (omega arith, λ l e. c .with-shell .ensures (l ++ joined (sidesOf (decode (s .args .room .now) (s .args .words .now) (s .args .reals .now))) (take k (s .args .shells .now))) (c .before .before .before .loop .inv .1 l e) ∙ ap (tallyOf (s .args .whole) (decode (s .args .room .now) (s .args .words .now) (s .args .reals .now))) (shells-turn (decode (s .args .room .now) (s .args .words .now) (s .args .reals .now)) l (s .args .shells .now) k (omega arith)))
 
 returns : tie.Need-returns Inv-loop μ-loop
 returns c =
     let s = c .before .before .before .before .before in
-    λ l e. c .before .loop .inv .1 l e ∙ ap (λ t. tallyOf (decode (s .args .room .now) (s .args .words .now) (s .args .reals .now)) (l ++ joined (sidesOf (decode (s .args .room .now) (s .args .words .now) (s .args .reals .now))) t)) (take-all (c .before .loop .k) (s .args .shells .now) (omega arith))
+    λ l e. c .before .loop .inv .1 l e ∙ ap (λ t. tallyOf (s .args .whole) (decode (s .args .room .now) (s .args .words .now) (s .args .reals .now)) (l ++ joined (sidesOf (decode (s .args .room .now) (s .args .words .now) (s .args .reals .now))) t)) (take-all (c .before .loop .k) (s .args .shells .now) (omega arith))
 
 pub with-shells-spec : {M : Type 1} → statement M
 with-shells-spec =

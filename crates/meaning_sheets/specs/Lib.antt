@@ -1,0 +1,3 @@
+pub mod Sheets
+pub mod Counting
+pub mod Evaluated

@@ -1,0 +1,4 @@
+pub mod Words
+pub mod Totals
+pub mod Complement
+pub mod Laws
