@@ -63,7 +63,7 @@ static void stones(void)
 
 static void report(void)
 {
-    uint32_t list[16], fit[1];
+    uint32_t list[16], fit[1], first[5];
     size_t counts[3];
     done(brunskerl_check_body(ASKED, 0, 1, 3, EDGES, list, 16, &counts), "check");
     done(brunskerl_fit_to_saw(ASKED, 0, EDGES, &fit), "fit to saw");
@@ -72,6 +72,11 @@ static void report(void)
         const uint32_t *fault = list + 4 * i;
         printf("  kind %u, class %u, id %u, reason %u\n", (unsigned)fault[0], (unsigned)fault[1], (unsigned)fault[2], (unsigned)fault[3]);
     }
+    done(brunskerl_first_fault(ASKED, 0, 1, 3, EDGES, &first), "the first fault");
+    if (first[0] == 0)
+        printf("the first fault: none\n");
+    else
+        printf("the first fault: kind %u, class %u, id %u, reason %u\n", (unsigned)first[1], (unsigned)first[2], (unsigned)first[3], (unsigned)first[4]);
 }
 
 static void split(size_t edge, double fraction)
@@ -179,7 +184,7 @@ static void entries(void)
 /* The stone as the other office is told of it, and an office that is none. A region, and where an edge runs, is told to both. */
 static void others(void)
 {
-    uint32_t is[1], body[2], code;
+    uint32_t is[1], body[2], first[5], code;
     double volume[1], bounds[2];
     office = 1;
     told("the body, as office 1", brunskerl_body(ASKED, 0, &body));
@@ -190,6 +195,7 @@ static void others(void)
     size_t none = brunskerl_body_faces(ASKED, 0, FACES, is, 1, &code);
     printf("its faces, as office 1: %zu, refused with %u\n", none, (unsigned)code);
     told("its volume, as office 1", brunskerl_body_volume(ASKED, 0, FACES, &volume));
+    told("its first fault, as office 1", brunskerl_first_fault(ASKED, 0, 1, 3, EDGES, &first));
     told("a region of it struck, as office 1", brunskerl_strike_entry(ASKED, 0, 0, 1));
     told("another kind of it, as office 1", brunskerl_set_body(ASKED, 0, WORDS(1, 0)));
     told("a kind of it that is none, as office 1", brunskerl_set_body(ASKED, 0, WORDS(1, 5)));
@@ -204,6 +210,7 @@ static void others(void)
     told("its volume, as office 2, with no marks", brunskerl_body_volume(ASKED, 0, faces, 0, &volume));
     office = 0;
     told("its volume, with no marks", brunskerl_body_volume(ASKED, 0, faces, 0, &volume));
+    told("its first fault, with 256 samples", brunskerl_first_fault(ASKED, 0, 1, 256, EDGES, &first));
 }
 
 /* Edge 0 has a tolerance of its own below the session's, and lies off the plane of face 0 by more than the one and less than the other. */

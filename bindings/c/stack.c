@@ -77,6 +77,7 @@ static void split_line_edge(void)
     brunskerl_split_line_edge(LENT, office, 0, 0.25, SLOTS(3));
 }
 CALL(check_body, office, 0, 1, 3, EDGES, ids, 16, &counts)
+CALL(first_fault, office, 0, 1, 3, EDGES, SLOTS(5))
 CALL(fit_to_saw, office, 0, EDGES, SLOTS(1))
 CALL(image_length, &length)
 CALL(write_image, image, sizeof image, &length)
@@ -93,7 +94,7 @@ static const struct {
     ROW(set_loop), ROW(set_fin), ROW(set_edge), ROW(set_vertex), ROW(set_curve), ROW(set_surface), ROW(set_fin_geometry), ROW(contains),
     ROW(list_entry), ROW(put_entry), ROW(append_entry), ROW(strike_entry), ROW(body_faces), ROW(body_edges), ROW(body_vertices),
     ROW(fin_vertices), ROW(body_bounding_box), ROW(body_volume), ROW(sheet_take), ROW(edge_parameter_bounds), ROW(split_line_edge), ROW(check_body),
-    ROW(fit_to_saw), ROW(image_length), ROW(write_image), ROW(read_image), ROW(make),
+    ROW(first_fault), ROW(fit_to_saw), ROW(image_length), ROW(write_image), ROW(read_image), ROW(make),
 };
 
 /* Makes the call, and gives how far below this frame it went. */

@@ -177,6 +177,11 @@ uint32_t brunskerl_split_line_edge(BRUNSKERL_MEMORY_OUT, uint32_t office, size_t
  * reason. */
 uint32_t brunskerl_check_body(BRUNSKERL_MEMORY, uint32_t office, size_t body, uint32_t geometry, size_t samples, uint8_t *faces, size_t f, uint8_t *edges, size_t e, uint32_t *list, size_t l, size_t (*counts)[3]);
 
+/* The first fault alone, for the operator's lamp: the first entry of the report's full list for the same options, and none exactly where that list has no entry. The
+ * check stops there. fault[0] is 1 where there is a fault, then kind, class, id and reason follow as the report has them; where there is none all five are 0. None is not
+ * fit to saw: what could not be checked is not told. Refusals: those of the report, in its order. */
+uint32_t brunskerl_first_fault(BRUNSKERL_MEMORY, uint32_t office, size_t body, uint32_t geometry, size_t samples, uint8_t *faces, size_t f, uint8_t *edges, size_t e, uint32_t (*fault)[5]);
+
 /* 1 where the body is fit to saw: geometry checked with three samples, no fault, nothing unchecked; the body is solid, a solid region of it has a face,
  * and every shell that a face of it names is one of the body's and lists the face. No more than that: it is 1 for a stone inside out (whose volume is
  * negative), for a flat one (whose volume is 0), and for one whose own tolerances swallow its errors. Ask for the volume and the box too. Refusals: 9,

@@ -41,6 +41,9 @@ calls! {
         office: u32, body: usize, geometry: u32, samples: usize, faces: *mut u8, f: usize, edges: *mut u8, e: usize, list: *mut u32, l: usize,
         counts: *mut [usize; 3]
     ) -> u32;
+    brunskerl_first_fault(
+        office: u32, body: usize, geometry: u32, samples: usize, faces: *mut u8, f: usize, edges: *mut u8, e: usize, fault: *mut [u32; 5]
+    ) -> u32;
     brunskerl_fit_to_saw(office: u32, body: usize, faces: *mut u8, f: usize, edges: *mut u8, e: usize, fit: *mut [u32; 1]) -> u32;
     brunskerl_body_volume(office: u32, body: usize, faces: *mut u8, f: usize, volume: *mut [f64; 1]) -> u32;
     brunskerl_sheet_take(office: u32, body: usize, faces: *mut u8, f: usize, sheet: *mut [u64; 5]) -> u32;

@@ -606,6 +606,31 @@ impl Model {
         }
     }
 
+    /// The first fault alone, for the operator's lamp: the first of [`Model::check_body`]'s for the same samples, and none exactly where it has none. The check
+    /// stops there.
+    ///
+    /// None is not fit to saw: what could not be checked is not told. [`Refusal::NotFound`] for a missing body.
+    pub fn first_fault(&self, body: u32, samples: Option<u8>) -> Result<Option<Fault>, Refusal> {
+        let [mut f, mut e, _] = self.marks();
+        let mut fault = [0; 5];
+        Refusal::of(ask!(
+            self,
+            brunskerl_first_fault(
+                self.office as u32,
+                body as usize,
+                samples.is_some().into(),
+                samples.unwrap_or(0).into(),
+                f.as_mut_ptr(),
+                f.len(),
+                e.as_mut_ptr(),
+                e.len(),
+                &mut fault
+            )
+        ))?;
+        let [tag, words @ ..] = fault;
+        Ok((tag != 0).then(|| Fault::of(&words)))
+    }
+
     /// Geometry checked with three samples to an edge, no fault, and nothing unchecked; and the body is solid, a solid region of it has a face, and every
     /// shell that a face of it names is one of the body's and lists the face.
     ///

@@ -23,7 +23,7 @@ fn stones() -> (Model, [u32; 2]) {
 /// All that an office is told of a body.
 fn told(model: &Model, body: u32) -> String {
     format!(
-        "{:?} {:?} {:?} {:?} {:?} {:?} {:?} {:?} {:?}",
+        "{:?} {:?} {:?} {:?} {:?} {:?} {:?} {:?} {:?} {:?}",
         model.body(body),
         model.list(List::RegionsOfBody, body),
         model.body_faces(body),
@@ -32,6 +32,7 @@ fn told(model: &Model, body: u32) -> String {
         model.body_bounding_box(body),
         model.body_volume(body),
         model.check_body(body, Some(3)),
+        model.first_fault(body, Some(3)),
         model.fit_to_saw(body),
     )
 }

@@ -1,6 +1,8 @@
 //! Whole models in the Rust and in lent memory, asked the same through the station's calls.
 
 pub mod edits;
+pub mod first;
+pub mod first_wrong;
 pub mod image;
 pub mod image_wrong;
 pub mod images;

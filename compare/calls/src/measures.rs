@@ -1,4 +1,4 @@
-//! The station's larger calls, as a C program links them: splits, boxes, volumes, the checker and the sheet. Each answer is numbers: 0 and the value's, or the
+//! The station's larger calls, as a C program links them: splits, boxes, volumes, the checker, its first fault and the sheet. Each answer is numbers: 0 and the value's, or the
 //! refusal alone.
 
 use models::plain::{Plain, bits};
@@ -64,6 +64,22 @@ unsafe extern "C" {
         list: *mut u32,
         l: usize,
         value: *mut [usize; 3],
+    ) -> u32;
+    fn brunskerl_first_fault(
+        room: Room,
+        words: *const u32,
+        n: usize,
+        reals: *const f64,
+        m: usize,
+        office: u32,
+        body: usize,
+        geometry: u32,
+        samples: usize,
+        faces: *mut u8,
+        f: usize,
+        edges: *mut u8,
+        e: usize,
+        fault: *mut [u32; 5],
     ) -> u32;
     fn brunskerl_fit_to_saw(
         room: Room,
@@ -290,6 +306,36 @@ impl Lent {
         });
         let given = [0, unchecked as u64].into_iter().chain(faults_kept).collect();
         (cleared(&marks[..2], given), faults)
+    }
+
+    /// The number alone; the slots are written where they stand (W-207).
+    pub fn first_fault(
+        &self,
+        body: usize,
+        geometry: u32,
+        samples: usize,
+        [faces, edges]: [&mut [u8]; 2],
+        fault: &mut [u32; 5],
+    ) -> u32 {
+        // SAFETY: the call reads the lent memory, writes to the marks and the slots, and keeps no address.
+        unsafe {
+            brunskerl_first_fault(
+                &self.room,
+                self.words.as_ptr(),
+                self.words.len(),
+                self.reals.as_ptr(),
+                self.reals.len(),
+                self.office,
+                body,
+                geometry,
+                samples,
+                faces.as_mut_ptr(),
+                faces.len(),
+                edges.as_mut_ptr(),
+                edges.len(),
+                fault,
+            )
+        }
     }
 
     /// 1 where the body is fit to saw.

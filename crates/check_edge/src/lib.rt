@@ -7,6 +7,7 @@ use check_points::point_on_surface;
 use check_points::sample_tests;
 use check_reasons::Tally;
 use check_reasons::VERTEX;
+use check_reasons::done;
 use float_vectors::vector::Point3;
 use geom_carriers::Found;
 use memory_layout::names::VERTICES;
@@ -59,6 +60,9 @@ fn end_test(
     requires { ⌜ Enough t (endFindings (decode (now room) (now words) (now reals)) curve surface tol e v) ⌝ }
     ensures { λ r. ⌜ Noted (endFindings (decode (now (room .entry)) (now (words .entry)) (now (reals .entry))) curve surface tol e v) (now (nums .entry)) t (now (nums .exit)) r ⌝ }
 {
+    if done(t) {
+        return t;
+    }
     if words[VERTICES] <= v {
         return t;
     }
@@ -167,6 +171,9 @@ fn samples(
     requires { ⌜ Enough t (samplesBetween (decode (now room) (now words) (now reals)) curve surface tol n e (refOf (edge .start)) (refOf (edge .end))) ⌝ }
     ensures { λ r. ⌜ Noted (samplesBetween (decode (now (room .entry)) (now (words .entry)) (now (reals .entry))) curve surface tol n e (refOf (edge .start)) (refOf (edge .end))) (now (nums .entry)) t (now (nums .exit)) r ⌝ }
 {
+    if done(t) {
+        return t;
+    }
     let start = edge.start;
     let end = edge.end;
     let t0 = parameter(room, words, reals, curve, start);

@@ -6,6 +6,7 @@ use check_loop::loop_;
 use check_reasons::FACE;
 use check_reasons::SHELL;
 use check_reasons::Tally;
+use check_reasons::done;
 use check_reasons::note;
 use check_reasons::note_if;
 use memory_layout::names::FACE_LOOPS;
@@ -90,6 +91,9 @@ pub fn face(
     requires { ⌜ Enough t (faceFindings (decode (now room) (now words) (now reals)) (options geometry n) s f) ⌝ }
     ensures { λ r. ⌜ Noted (faceFindings (decode (now (room .entry)) (now (words .entry)) (now (reals .entry))) (options geometry n) s f) (now (nums .entry)) t (now (nums .exit)) r ⌝ }
 {
+    if done(t) {
+        return t;
+    }
     if words[FACES] <= f {
         return note(nums, t, 7, SHELL, s);
     }

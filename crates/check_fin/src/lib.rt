@@ -4,6 +4,7 @@ use check_reasons::EDGE;
 use check_reasons::FIN;
 use check_reasons::LOOP;
 use check_reasons::Tally;
+use check_reasons::done;
 use check_reasons::note;
 use check_reasons::note_if;
 use memory_layout::names::EDGE_FINS;
@@ -77,6 +78,9 @@ fn fin_edge(
     requires { ⌜ Enough t (finEdge (decode (now room) (now words) (now reals)) i e) ⌝ }
     ensures { λ r. ⌜ Noted (finEdge (decode (now (room .entry)) (now (words .entry)) (now (reals .entry))) i e) (now (nums .entry)) t (now (nums .exit)) r ⌝ }
 {
+    if done(t) {
+        return t;
+    }
     if words[EDGES] <= e {
         return note(nums, t, 15, FIN, i);
     }
@@ -99,6 +103,9 @@ pub fn fin(
     requires { ⌜ Enough t (finFindings (decode (now room) (now words) (now reals)) l i) ⌝ }
     ensures { λ r. ⌜ Noted (finFindings (decode (now (room .entry)) (now (words .entry)) (now (reals .entry))) l i) (now (nums .entry)) t (now (nums .exit)) r ⌝ }
 {
+    if done(t) {
+        return t;
+    }
     if words[FINS] <= i {
         return note(nums, t, 13, LOOP, l);
     }
@@ -175,6 +182,9 @@ pub fn fin_geometry(
     requires { ⌜ Enough t (finOn (decode (now room) (now words) (now reals)) n (refOf surface) i) ⌝ }
     ensures { λ r. ⌜ Noted (finOn (decode (now (room .entry)) (now (words .entry)) (now (reals .entry))) n (refOf surface) i) (now (nums .entry)) t (now (nums .exit)) r ⌝ }
 {
+    if done(t) {
+        return t;
+    }
     if words[FINS] <= i {
         return t;
     }

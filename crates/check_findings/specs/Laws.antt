@@ -2,9 +2,10 @@
 use Prim.Native.Nat.{ℕ, _≤_, _<_}
 use native.Mathlib.Omega.{arith}
 use mathlib.Core.Path.{_≡_, refl, sym, ap, _∙_}
-use mathlib.Core.Bool.{Bool, true, false}
+use mathlib.Core.Bool.{Bool, true, false, cond}
 use mathlib.Core.List.{List, [], _++_}
 use lib.Ieee.{Float}
+use lib.ListN.{length}
 use borrow.Author.Tests.{eq-eqb, ne-eqb}
 use Rattle.meaning.specs.Lists.{joined}
 use Rattle.meaning.specs.Model as Models
@@ -18,15 +19,22 @@ use Rattle.memory_layout.specs.Entries.{listOf}
 use Rattle.memory_layout.specs.Fit.{Lists}
 use Rattle.memory_records.specs.declared.records.Body.{Body}
 use Rattle.memory_records.specs.Seen.{seenKind, seenBody}
-use Rattle.check_reasons.specs.Log.{Enough}
+use Rattle.check_reasons.specs.Log.{FIRST, Enough}
 use Rattle.walk_answers.specs.Decoded.{refusedBy}
 use Rattle.check_loop.specs.Loop.{options}
 use Rattle.check_findings.specs.Findings.{nothingYet, solidKind}
 use Rattle.check_findings.specs.Totals.{findings-le}
 
 -- there are numbers for all that can be found
-pub enough-findings : (room w : List ℕ) (x : List Float) (geometry : Bool) (n b : ℕ) → Lists room w → n ≤ 255 → b < word w 0 → Enough nothingYet (findings (decode room w x) (options geometry n) b)
-enough-findings room w x geometry n b lists h g = record { few = omega (arith, findings-le room w lists x (options geometry n) h b g) }
+pub enough-findings : (first : Bool) (room w : List ℕ) (x : List Float) (geometry : Bool) (n b : ℕ) → Lists room w → n ≤ 255 → b < word w 0 → Enough (nothingYet first) (findings (decode room w x) (options geometry n) b)
+enough-findings first room w x geometry n b lists h g = record { faults = omega (arith, few); unchecked = omega (arith, few, start first) }
+  where
+    few : length (findings (decode room w x) (options geometry n) b) ≤ 569094177041
+    few = findings-le room w lists x (options geometry n) h b g
+
+    start : (b : Bool) → cond b FIRST 0 ≤ FIRST
+    start true = omega arith
+    start false = omega arith
 
 -- a body's regions, by the list's number
 pub body-list : (room w : List ℕ) (x : List Float) (b : ℕ) → listOf room w 0 b ≡ body (decode room w x) b .regions

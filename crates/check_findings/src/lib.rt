@@ -1,6 +1,7 @@
 // Inner: what is found of a body (`body` of gensolid-check's lib.rs).
 use check_manifold::manifold_edges;
 use check_reasons::Tally;
+use check_reasons::done;
 use check_regions::all_regions;
 use check_regions::region_layout;
 use memory_layout::names::BODY_REGIONS;
@@ -19,7 +20,7 @@ ghost use Rattle.memory_layout.specs.Decode.{decode};
 ghost use Rattle.memory_layout.specs.Readable.{readable};
 ghost use Rattle.check_reasons.specs.Log.{Noted, Enough};
 ghost use Rattle.check_loop.specs.Loop.{options};
-ghost use Rattle.check_findings.specs.Findings.{nothingYet, solidKind};
+ghost use Rattle.check_findings.specs.Findings.{solidKind};
 
 fn is_solid(kind: BodyKind) -> bool
     ensures { λ r. ⌜ r ≡ solidKind kind ⌝ }
@@ -53,6 +54,9 @@ fn solid_edges(
     ensures { λ _. ⌜ now (faces .exit) ≡ replicate (length (now (faces .entry))) 0 ⌝ }
     ensures { λ _. ⌜ now (edges .exit) ≡ replicate (length (now (edges .entry))) 0 ⌝ }
 {
+    if done(t) {
+        return t;
+    }
     let it = body_at(room, words, body);
     let kind = it.kind;
     if !is_solid(kind) {
@@ -71,6 +75,7 @@ pub fn body_findings(
     words: &[u32],
     reals: &[f64],
     nums: &mut [u32],
+    t: Tally,
     geometry: bool,
     n: u32,
     body: usize,
@@ -81,14 +86,11 @@ pub fn body_findings(
     requires { ⌜ (n ≤ 255) × (body < word (now words) BODIES) ⌝ }
     requires { ⌜ now faces ≡ replicate (length (now faces)) 0 ⌝ }
     requires { ⌜ now edges ≡ replicate (length (now edges)) 0 ⌝ }
-    ensures { λ r. ⌜ Noted (findings (decode (now (room .entry)) (now (words .entry)) (now (reals .entry))) (options geometry n) body) (now (nums .entry)) nothingYet (now (nums .exit)) r ⌝ }
+    requires { ⌜ Enough t (findings (decode (now room) (now words) (now reals)) (options geometry n) body) ⌝ }
+    ensures { λ r. ⌜ Noted (findings (decode (now (room .entry)) (now (words .entry)) (now (reals .entry))) (options geometry n) body) (now (nums .entry)) t (now (nums .exit)) r ⌝ }
     ensures { λ _. ⌜ now (faces .exit) ≡ replicate (length (now (faces .entry))) 0 ⌝ }
     ensures { λ _. ⌜ now (edges .exit) ≡ replicate (length (now (edges .entry))) 0 ⌝ }
 {
-    let t = Tally {
-        faults: 0,
-        unchecked: 0,
-    };
     let b = body as u32;
     let regions = list(room, words, BODY_REGIONS, body);
     let laid = region_layout(room, words, reals, nums, t, b, regions);

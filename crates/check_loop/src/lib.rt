@@ -5,6 +5,7 @@ use check_open_loop::open_loop;
 use check_reasons::FACE;
 use check_reasons::LOOP;
 use check_reasons::Tally;
+use check_reasons::done;
 use check_reasons::note;
 use check_reasons::note_if;
 use memory_layout::names::LOOP_FINS;
@@ -141,6 +142,9 @@ pub fn loop_(
     requires { ⌜ Enough t (loopFindings (decode (now room) (now words) (now reals)) (options geometry n) f l) ⌝ }
     ensures { λ r. ⌜ Noted (loopFindings (decode (now (room .entry)) (now (words .entry)) (now (reals .entry))) (options geometry n) f l) (now (nums .entry)) t (now (nums .exit)) r ⌝ }
 {
+    if done(t) {
+        return t;
+    }
     if words[LOOPS] <= l {
         return note(nums, t, 10, FACE, f);
     }

@@ -21,8 +21,8 @@ use Rattle.walk_answers.specs.Laws.{edge-list}
 use Rattle.memory_records.specs.declared.records.Fin.{Fin}
 use Rattle.memory_records.specs.Seen.{seenSense, seenFin}
 use Rattle.check_reasons.specs.declared.Tally.{Tally}
-use Rattle.check_reasons.specs.Log.{Noted, Enough}
-use Rattle.check_reasons.specs.Laws.{noted-same, noted-then, enough-same, enough-first, enough-then}
+use Rattle.check_reasons.specs.Log.{Noted, Enough, over}
+use Rattle.check_reasons.specs.Laws.{noted-same, noted-then, enough-same, enough-first, enough-then, noted-over}
 use Rattle.check_manifold.specs.Manifold.{alike, bothAlike}
 
 -- ---- equal senses
@@ -137,6 +137,15 @@ module _ (f : ℕ → List Finding) (g : ℕ → List ℕ) (path : List ℕ) (p 
       let whole : joined f (firsts (joined g path)) ≡ (joined f (firsts (joined g (take p path))) ++ joined f (take r buf)) ++ joined f (b .rest) =
       ap (joined f) (b .same) ∙ joined-append f (firsts (joined g (take (p + 1) path))) (b .rest) ∙ ap (λ l. l ++ joined f (b .rest)) behind in
       enough-then (enough-first t _ _ (enough-same whole e)) a
+
+-- where the first fault is all that is asked for and was found, what is behind it adds nothing
+pub walk-over : (f : ℕ → List Finding) (g : ℕ → List ℕ) (path : List ℕ) (p : ℕ) {d d₁ : List ℕ} {t t₁ : Tally} → Noted (joined f (firsts (joined g (take p path)))) d t d₁ t₁ → over t₁ ≡ true
+    → Noted (joined f (firsts (joined g path))) d t d₁ t₁
+walk-over f g path p {d} {d₁} {t} {t₁} a e =
+    let b : Begins (firsts (joined g (take p path))) (firsts (joined g path)) =
+    subst (λ l. Begins (firsts (joined g (take p path))) (firsts l)) (sym (joined-append g (take p path) (drop p path)) ∙ ap (joined g) (take-append-drop p path))
+    (firsts-begin (joined g (take p path)) (joined g (drop p path))) in
+    noted-same (sym (ap (joined f) (b .same) ∙ joined-append f (firsts (joined g (take p path))) (b .rest))) (noted-then a (noted-over (joined f (b .rest)) d₁ t₁ e))
 
 -- ---- the walk of a body's edges, by its path
 

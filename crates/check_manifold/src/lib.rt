@@ -2,6 +2,7 @@
 // table has room for, so it is not put into a list: each source's new edges are tested before the next source is read.
 use check_reasons::EDGE;
 use check_reasons::Tally;
+use check_reasons::done;
 use check_reasons::note;
 use check_reasons::note_if;
 use memory_layout::names::EDGE_FINS;
@@ -98,6 +99,9 @@ fn manifold_edge(
     requires { ⌜ Enough t (manifoldEdge (decode (now room) (now words) (now reals)) e) ⌝ }
     ensures { λ r. ⌜ Noted (manifoldEdge (decode (now (room .entry)) (now (words .entry)) (now (reals .entry))) e) (now (nums .entry)) t (now (nums .exit)) r ⌝ }
 {
+    if done(t) {
+        return t;
+    }
     if words[EDGES] <= e {
         return t;
     }
@@ -166,6 +170,9 @@ fn manifold_path(
     let mut tally = t;
     let mut p = 0;
     while p < path.len() {
+        if done(tally) {
+            return tally;
+        }
         let n = new_ids(room, words, path, p, marks, buf);
         tally = all_manifold(room, words, reals, nums, tally, &buf[..n]);
         p += 1;

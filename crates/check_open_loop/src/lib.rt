@@ -2,6 +2,7 @@
 use check_ends::refs::same_ref;
 use check_reasons::FIN;
 use check_reasons::Tally;
+use check_reasons::done;
 use check_reasons::note_if;
 use memory_layout::names::EDGES;
 use memory_layout::names::FINS;
@@ -97,6 +98,9 @@ fn open_at(
     requires { ⌜ Enough t (openAt (decode (now room) (now words) (now reals)) i next) ⌝ }
     ensures { λ r. ⌜ Noted (openAt (decode (now (room .entry)) (now (words .entry)) (now (reals .entry))) i next) (now (nums .entry)) t (now (nums .exit)) r ⌝ }
 {
+    if done(t) {
+        return t;
+    }
     let apart = open_between(room, words, reals, i, next);
     note_if(nums, t, apart, 18, FIN, i)
 }

@@ -1,5 +1,5 @@
 -- Laws of what is found of points. Assumes nothing.
-use Prim.Native.Nat.{ℕ, zero, suc, _+_, _<_}
+use Prim.Native.Nat.{ℕ, zero, suc, _+_, _≤_, _<_}
 use native.Mathlib.Omega.{arith}
 use mathlib.Core.Path.{_≡_, refl, sym, ap, _∙_}
 use mathlib.Core.List.{List, [], _∷_, _++_}
@@ -27,7 +27,8 @@ use Rattle.geom_signs.specs.Signs.{offCurveS}
 use Rattle.meaning.specs.Lists.{run}
 use Rattle.meaning.specs.Model.{Model, edge, vertex, pointOf, curve, surface}
 use Rattle.meaning.specs.Faults.{ofEdge, Asked, about, Finding, onlyIf, faultOn, geometryError, offCurve, curveTest, pointOnSurface, sampleTest, sampleAt}
-use Rattle.check_points.specs.Points.{curveFindings, surfaceFindings, sampleFindings}
+use Rattle.check_points.specs.Points.{codeFindings, surfaceCode, curveFindings, surfaceFindings, sampleFindings}
+use Rattle.check_points.specs.NoteLaws.{error-coded, error-few, off-coded, off-few}
 
 -- ---- a query's answer, read back
 
@@ -75,15 +76,27 @@ error-none a n l e = ap (λ k. geometryError a k l) e
 -- ---- the two arms of each test: "7 is a check not made", "2 is reason 25, any other refusal is reason 26", or what the value says
 
 module _ (f : Found) (p : Point3) (tolerance : Float) (n : ℕ) (a : Asked) (r : Measured) (e : r ≡ distanceToSurface f p) where
-  pub surface-refused : (m : ℕ) → r ≡ Measures.Refused m → (0 < m) × (surfaceFindings f p tolerance n a ≡ geometryError a m [])
+  surface-refused : (m : ℕ) → r ≡ Measures.Refused m → (0 < m) × (surfaceFindings f p tolerance n a ≡ geometryError a m [])
   unfolding distanceToSurface surfaceFindings
   surface-refused m q = let w = measure-refused _ m (planeDistance (thePlane f) p) (sym e ∙ q) in (refused-some _ m w, error-refused a _ m _ w)
 
-  pub surface-given : (d : Float) → r ≡ Measures.Is d → surfaceFindings f p tolerance n a ≡ onlyIf (lt tolerance d) (faultOn n a)
+  surface-given : (d : Float) → r ≡ Measures.Is d → surfaceFindings f p tolerance n a ≡ onlyIf (lt tolerance d) (faultOn n a)
   unfolding distanceToSurface surfaceFindings
   surface-given d q =
       let w = measure-given (distanceRefusal f p) _ d (sym e ∙ q) in
       error-none a _ _ (w .number) ∙ ap (λ x. onlyIf (lt tolerance x) (faultOn n a)) (w .value)
+
+  -- by the code
+  pub surface-coded : 0 < n → n ≤ 26 → surfaceFindings f p tolerance n a ≡ codeFindings (surfaceCode r tolerance n) a
+  surface-coded h g = by r refl
+    where
+      by : (q : Measured) → r ≡ q → surfaceFindings f p tolerance n a ≡ codeFindings (surfaceCode q tolerance n) a
+      by (Measures.Refused m) q = let w = surface-refused m q in w .1 ∙ error-coded a m (w .0)
+      by (Measures.Is d) q = surface-given d q ∙ off-coded (lt tolerance d) n a h g
+
+pub surface-few : (r : Measured) (tolerance : Float) (n : ℕ) → n ≤ 26 → surfaceCode r tolerance n ≤ 27
+surface-few (Measures.Refused m) tolerance n g = error-few m
+surface-few (Measures.Is d) tolerance n g = off-few (lt tolerance d) n g
 
 module _ (f : Found) (p : Point3) (vertex edge : Float) (e v : ℕ) (r : Projected) (told : r ≡ projectToCurve f p) where
   pub curve-refused : (m : ℕ) → r ≡ Projections.Refused m → (0 < m) × (curveFindings f p vertex edge e v ≡ geometryError (about ofEdge e) m [])

@@ -1,3 +1,3 @@
 pub mod Points
-pub mod Laws
 pub mod NoteLaws
+pub mod Laws

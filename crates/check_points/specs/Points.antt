@@ -1,16 +1,32 @@
 -- What is found of a point held against a curve or a surface, by what the tables have under their ids (`Laws.antt`: it is what `meaning` says).
 -- No reader of a public promise needs this file. Definitions only.
 use Prim.Native.Nat.{ℕ}
-use mathlib.Core.List.{List}
+use mathlib.Core.Bool.{cond}
+use mathlib.Core.List.{List, [], _∷_}
+use lib.Dec.{eqb}
 use lib.Ieee.{Float, lt}
 use Rattle.float_vectors.specs.declared.vector.Point3.{Point3}
 use Rattle.geom_lines_planes.specs.Geometry.{linePoint, nearest, planeDistance}
 use Rattle.geom_carriers.specs.declared.Found.{Found}
 use Rattle.geom_carriers.specs.Queries.{theLine, thePlane}
 use Rattle.geom_queries.specs.Queries.{evalRefusal, projectRefusal, distanceRefusal}
+use Rattle.geom_queries.specs.declared.Measured.{Measured}
+use Rattle.geom_queries.specs.declared.Measured.the-variants as Measures
 use Rattle.geom_signs.specs.Signs.{offCurveS}
 use Rattle.meaning.specs.Lists.{run, joined}
-use Rattle.meaning.specs.Faults.{ofEdge, Asked, about, Finding, onlyIf, faultOn, geometryError, offCurve, sampleAt}
+use Rattle.meaning.specs.Faults.{ofEdge, Asked, about, Finding, skipped, onlyIf, faultOn, geometryError, offCurve, sampleAt}
+
+-- what is found, by a code: 0 is nothing, 27 a check not made, else the fault of a reason
+abbrev pub codeFindings : ℕ → Asked → List Finding
+codeFindings c a = cond (eqb c 0) [] (cond (eqb c 27) (skipped ∷ []) (faultOn c a ∷ []))
+
+-- the code of a refusal, and of a distance that was asked for
+abbrev pub errorCode : ℕ → ℕ
+errorCode n = cond (eqb n 7) 27 (cond (eqb n 2) 25 26)
+
+abbrev pub surfaceCode : Measured → Float → ℕ → ℕ
+surfaceCode (Measures.Refused k) tolerance n = errorCode k
+surfaceCode (Measures.Is d) tolerance n = cond (lt tolerance d) n 0
 
 -- `curveTest`: the vertex v at p on the curve of the edge e, with the tolerances of both
 unfoldable pub curveFindings : Found → Point3 → Float → Float → ℕ → ℕ → List Finding

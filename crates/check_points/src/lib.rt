@@ -3,15 +3,15 @@
 pub mod notes;
 
 use crate::notes::geometry_error;
+use crate::notes::log_code;
 use crate::notes::note_off_curve;
 use crate::notes::sample_at;
+use crate::notes::surface_code;
 use check_reasons::EDGE;
 use check_reasons::Tally;
-use check_reasons::note_if;
 use float_vectors::vector::Point3;
 use geom_carriers::Found;
 use geom_queries::Evaluated;
-use geom_queries::Measured;
 use geom_queries::Projected;
 use geom_queries::distance_to_surface;
 use geom_queries::eval_curve;
@@ -59,10 +59,8 @@ pub fn point_on_surface(
     requires { ⌜ Enough t (surfaceFindings surface p tolerance n (about (classAt asked) id)) ⌝ }
     ensures { λ r. ⌜ Noted (surfaceFindings surface p tolerance n (about (classAt asked) id)) (now (nums .entry)) t (now (nums .exit)) r ⌝ }
 {
-    match distance_to_surface(surface, p) {
-        Measured::Refused(m) => geometry_error(nums, t, m, asked, id),
-        Measured::Is(distance) => note_if(nums, t, tolerance < distance, n, asked, id),
-    }
+    let code = surface_code(distance_to_surface(surface, p), tolerance, n);
+    log_code(nums, t, code, asked, id)
 }
 
 // The point of the edge e at a parameter against the face's surface.

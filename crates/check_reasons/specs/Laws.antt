@@ -4,10 +4,11 @@ use native.Mathlib.Omega.{arith}
 use native.Mathlib.Numerals.{add-one}
 use native.Mathlib.Nat.{add-zero}
 use mathlib.Core.Path.{_≡_, refl, sym, ap, _∙_, subst}
-use mathlib.Core.Bool.{Bool, true, false, cond}
+use mathlib.Core.Bool.{Bool, true, false, not, cond, _&&_}
 use mathlib.Core.List.{List, [], _∷_, _++_, map, append-assoc}
 use mathlib.Core.Option.{Option, none, some}
-use lib.Dec.{eqb}
+use lib.Dec.{eqb, leb}
+use borrow.Author.Tests.{lt-leb}
 use lib.ListN.{length, getD, set, take, drop, length-append, take-append-drop}
 use lib.Seq.{sets, length-sets, take-suc, drop-cons}
 use Rattle.meaning.specs.Lists.{joined}
@@ -15,7 +16,7 @@ use Rattle.meaning.specs.Faults.{Class, ofBody, ofRegion, ofShell, ofFace, ofLo
 use Rattle.meaning_list_laws.specs.Lists.{joined-cons, joined-append, joined-snoc}
 use Rattle.check_reasons.specs.declared.Reason.{Reason}
 use Rattle.check_reasons.specs.declared.Tally.{Tally}
-use Rattle.check_reasons.specs.Log.{classNumber, classAt, classWord, rowOf, faultWords, faultsWords, Log, logOf, noted, logged, Noted, Enough}
+use Rattle.check_reasons.specs.Log.{classNumber, classAt, classWord, rowOf, faultWords, faultsWords, FIRST, over, Log, logOf, more, noted, logged, Noted, Enough}
 
 -- an entry of a table that is made of another
 pub map-nth : {A B : Type 0} (f : A → B) (l : List A) (k : ℕ) (d : A) (e : B) → k < length l → getD (map f l) k e ≡ f (getD l k d)
@@ -57,20 +58,30 @@ sets-four d a b c e at k x y z u h p q r s =
     rw (s, r, q, p, three, two, one, h)
 
 pub note-one : (d e : List ℕ) (t : Tally) (kind class n id asked : ℕ) → asked < 8 → kind ≡ reasonRow n .kind → class ≡ cond (eqb (classWord (reasonRow n .class)) 8) asked (classWord (reasonRow n .class))
-    → e ≡ sets d (4 * t .faults) (kind ∷ class ∷ id ∷ n ∷ [])
+    → e ≡ sets d (4 * t .faults) (kind ∷ class ∷ id ∷ n ∷ []) → over t ≡ false
     → Noted (faultOn n (about (classAt asked) id) ∷ []) d t e (record { faults = t .faults + 1; unchecked = t .unchecked })
 unfolding logged noted faultOn
-note-one d e t kind class n id asked h p q s =
+note-one d e t kind class n id asked h p q s go =
     let same : e ≡ sets d (4 * t .faults) (reasonRow n .kind ∷ classNumber (classOr (reasonRow n .class) (classAt asked)) ∷ id ∷ n ∷ []) =
     s ∙ ap (λ k. sets d (4 * t .faults) (k ∷ class ∷ id ∷ n ∷ [])) p ∙ ap (λ k. sets d (4 * t .faults) (reasonRow n .kind ∷ k ∷ id ∷ n ∷ [])) (q ∙ class-told (reasonRow n .class) asked h) in
     record {
-      log = ap (λ l. logOf l (record { faults = t .faults + 1; unchecked = t .unchecked })) same ∙ rw add-one refl;
+      log = ap (λ l. logOf l (record { faults = t .faults + 1; unchecked = t .unchecked })) same ∙ rw (go, add-one) refl;
       long = ap length same ∙ simp length-sets;
     }
 
-pub skip-one : (d : List ℕ) (t : Tally) → Noted (skipped ∷ []) d t d (record { faults = t .faults; unchecked = t .unchecked + 1 })
+pub skip-one : (d : List ℕ) (t : Tally) → over t ≡ false → Noted (skipped ∷ []) d t d (record { faults = t .faults; unchecked = t .unchecked + 1 })
 unfolding logged noted
-skip-one d t = record { log = rw add-one refl; long = refl }
+skip-one d t go = record { log = rw (go, add-one) refl; long = refl }
+
+-- ---- behind the first fault, where it is all that is asked for, nothing is logged
+
+pub logged-over : (g : Log) (l : List Finding) → over (g .tally) ≡ true → logged g l ≡ g
+unfolding logged noted
+logged-over g [] e = refl
+logged-over g (x ∷ l) e = ap (λ b. logged (cond b g (more g x)) l) e ∙ logged-over g l e
+
+pub noted-over : (l : List Finding) (d : List ℕ) (t : Tally) → over t ≡ true → Noted l d t d t
+noted-over l d t e = record { log = sym (logged-over (logOf d t) l e); long = refl }
 
 -- ---- a fault where a test holds
 
@@ -100,29 +111,44 @@ noted-same {a} {b} {d} {e} {t} {u} h p = subst (λ (l : List Finding). Noted l d
 
 -- ---- there are numbers
 
-abbrev weight : Log → ℕ
-weight g = g .faults + g .unchecked
+-- a number of the tally that a finding raises by one at most
+module _ (of : Tally → ℕ) (one : (g : Log) (x : Finding) → of (more g x .tally) ≤ of (g .tally) + 1) where
+  noted-raises : (g : Log) (x : Finding) → of (noted g x .tally) ≤ of (g .tally) + 1
+  unfolding noted
+  noted-raises g x = by (over (g .tally))
+    where
+      by : (b : Bool) → of (cond b g (more g x) .tally) ≤ of (g .tally) + 1
+      by true = omega arith
+      by false = one g x
 
-weight-noted : (g : Log) (x : Finding) → weight (noted g x) ≡ weight g + 1
-unfolding noted
-weight-noted g (found f) = omega arith
-weight-noted g skipped = omega arith
+  logged-raises : (g : Log) (l : List Finding) → of (logged g l .tally) ≤ of (g .tally) + length l
+  unfolding logged
+  logged-raises g [] = omega arith
+  logged-raises g (x ∷ l) = omega (arith, logged-raises (noted g x) l, noted-raises g x)
 
-weight-logged : (g : Log) (l : List Finding) → weight (logged g l) ≡ weight g + length l
-unfolding logged
-weight-logged g [] = omega arith
-weight-logged g (x ∷ l) = omega (arith, weight-logged (noted g x) l, weight-noted g x)
+  raises : {l : List Finding} {d d₁ : List ℕ} {t t₁ : Tally} → Noted l d t d₁ t₁ → of t₁ ≤ of t + length l
+  raises {l} {d} {d₁} {t} {t₁} p = subst (λ (g : Log). of (g .tally) ≤ of t + length l) (sym (p .log)) (logged-raises (logOf d t) l)
+
+one-fault : (g : Log) (x : Finding) → more g x .tally .faults ≤ g .tally .faults + 1
+one-fault g (found f) = omega arith
+one-fault g skipped = omega arith
+
+one-unchecked : (g : Log) (x : Finding) → more g x .tally .unchecked ≤ g .tally .unchecked + 1
+one-unchecked g (found f) = omega arith
+one-unchecked g skipped = omega arith
 
 pub enough-same : {a b : List Finding} {t : Tally} → a ≡ b → Enough t a → Enough t b
 enough-same {a} {b} {t} h e = subst (λ (l : List Finding). Enough t l) h e
 
 pub enough-first : (t : Tally) (a b : List Finding) → Enough t (a ++ b) → Enough t a
-enough-first t a b e = record { few = omega (arith, rw length-append at (e .few)) }
+enough-first t a b e = record { faults = omega (arith, rw length-append at (e .faults)); unchecked = omega (arith, rw length-append at (e .unchecked)) }
 
 pub enough-then : {a b : List Finding} {d d₁ : List ℕ} {t t₁ : Tally} → Enough t (a ++ b) → Noted a d t d₁ t₁ → Enough t₁ b
 enough-then {a} {b} {d} {d₁} {t} {t₁} e p =
-    let w : t₁ .faults + t₁ .unchecked ≡ t .faults + t .unchecked + length a = ap weight (p .log) ∙ weight-logged (logOf d t) a in
-    record { few = omega (arith, rw length-append at (e .few)) }
+    record {
+      faults = omega (arith, raises (λ r. r .faults) one-fault p, rw length-append at (e .faults));
+      unchecked = omega (arith, raises (λ r. r .unchecked) one-unchecked p, rw length-append at (e .unchecked));
+    }
 
 -- ---- a turn of a loop over the entries of a list, each with its findings
 
@@ -150,16 +176,23 @@ sets-append : (d : List ℕ) (at n : ℕ) (k l : List ℕ) → n ≡ at + length
 sets-append d at n [] l h = ap (λ i. sets d i l) (omega arith)
 sets-append d at n (x ∷ k) l h = sets-append (set d at x) (suc at) n k l (omega arith)
 
-logs : {a b : List ℕ} {n m u v : ℕ} → a ≡ b → n ≡ m → u ≡ v
-    → _≡_ {A = Log} (record { list = a; faults = n; unchecked = u }) (record { list = b; faults = m; unchecked = v })
+abbrev tallied : ℕ → ℕ → Tally
+tallied n u = record { faults = n; unchecked = u }
+
+pub logs : {a b : List ℕ} {n m u v : ℕ} → a ≡ b → n ≡ m → u ≡ v → logOf a (tallied n u) ≡ logOf b (tallied m v)
 logs p q r = cc
 
-pub logged-report : (d : List ℕ) (n u : ℕ) (l : List Finding)
-    → logged (record { list = d; faults = n; unchecked = u }) l
-    ≡ record { list = sets d (4 * n) (faultsWords (faultsOf l)); faults = n + length (faultsOf l); unchecked = u + skippedOf l }
-unfolding logged noted faultsOf skippedOf faultsWords
-logged-report d n u [] = cc (add-zero n, add-zero u)
-logged-report d n u (found f ∷ l) =
-    logged-report (sets d (4 * n) (faultWords f)) (suc n) u l
+-- as long as the checks not made stay below FIRST, each finding is logged
+all-asked : (d : List ℕ) (n u : ℕ) (x : Finding) → u < FIRST → noted (logOf d (tallied n u)) x ≡ more (logOf d (tallied n u)) x
+unfolding noted
+all-asked d n u x h = rw (lt-leb FIRST u h)
+
+pub logged-report : (d : List ℕ) (n u : ℕ) (l : List Finding) → u + length l < FIRST
+    → logged (logOf d (tallied n u)) l ≡ logOf (sets d (4 * n) (faultsWords (faultsOf l))) (tallied (n + length (faultsOf l)) (u + skippedOf l))
+unfolding logged faultsOf skippedOf faultsWords
+logged-report d n u [] h = cc (add-zero n, add-zero u)
+logged-report d n u (found f ∷ l) h =
+    ap (λ g. logged g l) (all-asked d n u (found f) (omega arith))
+    ∙ logged-report (sets d (4 * n) (faultWords f)) (suc n) u l (omega arith)
     ∙ logs (sym (sets-append d (4 * n) (4 * suc n) (faultWords f) (faultsWords (faultsOf l)) (omega arith))) (omega arith) refl
-logged-report d n u (skipped ∷ l) = logged-report d n (suc u) l ∙ logs refl refl (omega arith)
+logged-report d n u (skipped ∷ l) h = ap (λ g. logged g l) (all-asked d n u skipped (omega arith)) ∙ logged-report d n (suc u) l (omega arith) ∙ logs refl refl (omega arith)

@@ -1,8 +1,10 @@
 -- The findings of the checker as they are logged: words of the faults, four to a fault, in a lent list, and a tally. Definitions only.
 use Prim.Native.Nat.{ℕ, zero, suc, _+_, _*_, _≤_}
 use mathlib.Core.Path.{_≡_}
+use mathlib.Core.Bool.{Bool, not, cond, _&&_}
 use mathlib.Core.List.{List, [], _∷_, _++_}
 use mathlib.Core.Option.{Option, none, some}
+use lib.Dec.{eqb, leb}
 use lib.ListN.{length}
 use lib.Seq.{sets}
 use Rattle.meaning.specs.Faults.{Class, ofBody, ofRegion, ofShell, ofFace, ofLoop, ofFin, ofEdge, ofVertex, reasonRow, Fault, Finding, found, skipped}
@@ -51,19 +53,36 @@ unfoldable pub faultsWords : List Fault → List ℕ
 faultsWords [] = []
 faultsWords (f ∷ l) = faultWords f ++ faultsWords l
 
+-- W-207, "a question that stops there": where the first fault is all that is asked for, the checks not made are counted from FIRST
+abbrev pub FIRST : ℕ
+FIRST = 2305843009213693952
+
+-- it was found
+abbrev pub stopped : ℕ → ℕ → Bool
+stopped faults unchecked = leb FIRST unchecked && not (eqb faults 0)
+
+abbrev pub over : Tally → Bool
+over t = stopped (t .faults) (t .unchecked)
+
 -- the lent words, and the tally
 pub record Log : Type 0 where
   pub list : List ℕ
-  pub faults : ℕ
-  pub unchecked : ℕ
+  pub tally : Tally
 
 abbrev pub logOf : List ℕ → Tally → Log
-logOf d t = record { list = d; faults = t .faults; unchecked = t .unchecked }
+logOf d t = record { list = d; tally = t }
 
 -- one finding more: a fault's words stand behind those of the faults before, as far as the list goes
+abbrev pub more : Log → Finding → Log
+more g (found f) =
+    record {
+      list = sets (g .list) (4 * g .tally .faults) (faultWords f);
+      tally = record { faults = suc (g .tally .faults); unchecked = g .tally .unchecked };
+    }
+more g skipped = record { list = g .list; tally = record { faults = g .tally .faults; unchecked = suc (g .tally .unchecked) } }
+
 unfoldable pub noted : Log → Finding → Log
-noted g (found f) = record { list = sets (g .list) (4 * g .faults) (faultWords f); faults = suc (g .faults); unchecked = g .unchecked }
-noted g skipped = record { list = g .list; faults = g .faults; unchecked = suc (g .unchecked) }
+noted g x = cond (over (g .tally)) g (more g x)
 
 unfoldable pub logged : Log → List Finding → Log
 logged g [] = g
@@ -76,4 +95,5 @@ pub record Noted (l : List Finding) (d₀ : List ℕ) (t₀ : Tally) (d : List �
 
 -- there are numbers for the findings l
 pub record Enough (t : Tally) (l : List Finding) : Type 0 where
-  pub few : t .faults + t .unchecked + length l ≤ 1152921504606846976
+  pub faults : t .faults + length l ≤ 1152921504606846976
+  pub unchecked : t .unchecked + length l ≤ 3458764513820540928

@@ -11,7 +11,7 @@ ghost use Prim.Native.Nat.{ℕ, _≤_, _<_, _*_};
 ghost use lib.Dec.{eqb};
 ghost use lib.Seq.{sets};
 ghost use Rattle.meaning.specs.Faults.{skipped, faultOn, about, onlyIf};
-ghost use Rattle.check_reasons.specs.Log.{classAt, rowOf, Noted, Enough};
+ghost use Rattle.check_reasons.specs.Log.{classAt, rowOf, stopped, over, Noted, Enough};
 
 // The class of an entity, by its table; ASKED is the class of what was asked about.
 pub const BODY: u32 = 0;
@@ -68,10 +68,26 @@ const REASONS: [Reason; 26] = [
     Reason { kind: 8, class: 8 },
 ];
 
-// How many faults and how many checks not made there were so far.
+// How many faults and how many checks not made there were so far. Where the first fault is all that is asked for (W-207), which tells no checks, those are counted from FIRST: so the tally
+// stays two words, which pass in registers, and the full report as fast.
 pub struct Tally {
     pub faults: usize,
     pub unchecked: usize,
+}
+
+pub const FIRST: usize = 2305843009213693952;
+
+// Is there nothing to look for any more? Asked by the fields: `note` and `skip` hand the struct to nobody, so that it comes to them in registers.
+fn stops(faults: usize, unchecked: usize) -> bool
+    ensures { λ r. ⌜ r ≡ stopped faults unchecked ⌝ }
+{
+    (FIRST <= unchecked) & (faults != 0)
+}
+
+pub fn done(t: Tally) -> bool
+    ensures { λ r. ⌜ r ≡ over t ⌝ }
+{
+    stops(t.faults, t.unchecked)
 }
 
 fn row(n: usize) -> Reason
@@ -109,6 +125,12 @@ pub fn note(nums: &mut [u32], t: Tally, n: u32, asked: u32, id: u32) -> Tally
     requires { ⌜ Enough t (faultOn n (about (classAt asked) id) ∷ []) ⌝ }
     ensures { λ r. ⌜ Noted (faultOn n (about (classAt asked) id) ∷ []) (now (nums .entry)) t (now (nums .exit)) r ⌝ }
 {
+    if stops(t.faults, t.unchecked) {
+        return Tally {
+            faults: t.faults,
+            unchecked: t.unchecked,
+        };
+    }
     let reason = row(n as usize);
     put_fault(
         nums,
@@ -141,6 +163,12 @@ pub fn skip(t: Tally) -> Tally
     requires { ⌜ Enough t (skipped ∷ []) ⌝ }
     ensures { λ r. ⌜ ((d : List ℕ) → Noted (skipped ∷ []) d t d r) ⌝ }
 {
+    if stops(t.faults, t.unchecked) {
+        return Tally {
+            faults: t.faults,
+            unchecked: t.unchecked,
+        };
+    }
     Tally {
         faults: t.faults,
         unchecked: t.unchecked + 1,

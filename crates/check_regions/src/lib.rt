@@ -4,6 +4,7 @@ use check_reasons::BODY;
 use check_reasons::REGION;
 use check_reasons::SHELL;
 use check_reasons::Tally;
+use check_reasons::done;
 use check_reasons::note;
 use check_reasons::note_if;
 use memory_layout::names::REGION_SHELLS;
@@ -69,6 +70,9 @@ fn shell(
     requires { ⌜ Enough t (shellFindings (decode (now room) (now words) (now reals)) (options geometry n) r s) ⌝ }
     ensures { λ a. ⌜ Noted (shellFindings (decode (now (room .entry)) (now (words .entry)) (now (reals .entry))) (options geometry n) r s) (now (nums .entry)) t (now (nums .exit)) a ⌝ }
 {
+    if done(t) {
+        return t;
+    }
     if words[SHELLS] <= s {
         return note(nums, t, 5, REGION, r);
     }
@@ -121,6 +125,9 @@ fn region(
     requires { ⌜ Enough t (regionFindings (decode (now room) (now words) (now reals)) (options geometry n) b r) ⌝ }
     ensures { λ a. ⌜ Noted (regionFindings (decode (now (room .entry)) (now (words .entry)) (now (reals .entry))) (options geometry n) b r) (now (nums .entry)) t (now (nums .exit)) a ⌝ }
 {
+    if done(t) {
+        return t;
+    }
     if words[REGIONS] <= r {
         return note(nums, t, 3, BODY, b);
     }

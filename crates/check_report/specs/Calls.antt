@@ -2,20 +2,24 @@
 -- What is found, and when 1 and 2 are given, stands in `meaning`, Faults.antt.
 use Prim.Native.Nat.{ℕ, _/_}
 use mathlib.Core.Bool.{Bool, _&&_}
-use mathlib.Core.List.{List}
+use mathlib.Core.List.{List, [], _∷_}
+use mathlib.Core.Option.{Option, none, some}
 use lib.ListN.{length}
 use lib.Ieee.{Float}
 use Rattle.geom_lines_planes.specs.Refuse.{_unless_, _then_, answer}
 use Rattle.meaning.specs.Faults as Faults
-use Rattle.meaning.specs.Faults.{CheckOptions, Report, reportOf, findings, checkRefusal, kept, counts, sawing, sawable}
+use Rattle.meaning.specs.Faults.{Fault, CheckOptions, Report, reportOf, findings, checkRefusal, kept, counts, sawing, sawable}
 use Rattle.memory_layout.specs.Names.{FACES, EDGES}
 use Rattle.memory_layout.specs.Decode.{decode}
 use Rattle.memory_layout.specs.Readable.{readable}
-use Rattle.check_reasons.specs.Log.{faultsWords}
+use Rattle.check_reasons.specs.Log.{classNumber, faultsWords}
 use Rattle.walk_answers.specs.Calls.{reach, handed, inFront}
 use Rattle.station_answers.specs.declared.Counts.{Counts}
 use Rattle.station_answers.specs.declared.Checked.{Checked}
 use Rattle.station_answers.specs.declared.Checked.the-variants as Checks
+use Rattle.check_report.specs.declared.FaultFound.{FaultFound}
+use Rattle.check_report.specs.declared.FirstFault.{FirstFault}
+use Rattle.check_report.specs.declared.FirstFault.the-variants as Firsts
 use Rattle.station_answers.specs.declared.Sawable.{Sawable}
 use Rattle.station_answers.specs.declared.Sawable.the-variants as Saws
 
@@ -26,6 +30,18 @@ asked geometry samples = record { geometry = geometry; edgeSamples = samples }
 -- "the report gives the full number of faults, how many were kept (..), and `unchecked`", as the answer holds them
 abbrev pub seenCounts : Faults.Counts → Counts
 seenCounts c = record { faults = c .faults; kept = c .kept; unchecked = c .unchecked }
+
+-- a fault as the answer holds it, its class by its table; and the first of a list
+abbrev pub seenFault : Fault → FaultFound
+seenFault f = record { kind = f .kind; class = classNumber (f .class); id = f .id; reason = f .reason }
+
+abbrev pub firstOf : List Fault → Option FaultFound
+firstOf [] = none
+firstOf (f ∷ l) = some (seenFault f)
+
+abbrev pub told : Option FaultFound → FirstFault
+told none = Firsts.None
+told (some f) = Firsts.Is f
 
 module _ (room w : List ℕ) (x : List Float) (b : ℕ) where
   -- the report of the body that the memory holds
@@ -46,6 +62,10 @@ module _ (room w : List ℕ) (x : List Float) (b : ℕ) where
   -- 01, "Entries beyond those kept are unchanged", and "A refusal .. alters no .. fault entry"
   unfoldable pub checkWords : CheckOptions → List ℕ → List ℕ → List ℕ → List ℕ
   checkWords o faceMarks edgeMarks nums = inFront (handed (checkNumber o faceMarks edgeMarks) (faultsWords (kept (length nums / 4) (reportOn o)))) nums
+
+  -- W-207, "it gives the first entry of the full list for the same options, and "none" exactly where that list has no entry. It gives no `unchecked`. Refusals: those of the full check"
+  unfoldable pub firstAnswer : CheckOptions → List ℕ → List ℕ → FirstFault
+  firstAnswer o faceMarks edgeMarks = answer told Firsts.Refused (checkNumber o faceMarks edgeMarks) (firstOf (reportOn o .faults))
 
   -- 01, "Fit to saw (added): geometry on, three samples, no fault, `unchecked` 0"; W-203, "must also mean that the body is solid, that some solid region has a face, .."
   unfoldable pub fitAnswer : List ℕ → List ℕ → Sawable

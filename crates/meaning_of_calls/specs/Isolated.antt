@@ -22,12 +22,12 @@ use Rattle.memory_writes.specs.Put.{unlessRefused}
 use Rattle.walk_answers.specs.Calls.{reach, inFront}
 use Rattle.check_reasons.specs.Log.{faultsWords}
 use Rattle.office_walks.specs.Calls.{officeFacesNumber, officeFacesHanded, officeEdgesNumber, officeEdgesHanded, officeVerticesNumber, officeVerticesHanded}
-use Rattle.office_measures.specs.Answers.{officeBox, officeVolume, officeReport, officeFaults, officeFit}
+use Rattle.office_measures.specs.Answers.{officeBox, officeVolume, officeReport, officeFaults, officeFirst, officeFit}
 use Rattle.sheet_words.specs.declared.StoneSheet.{StoneSheet}
 use Rattle.sheet_words.specs.Words.{sheetOf, wordsOfSheet}
 use Rattle.office_sheets.specs.Answers.{takeNumber, takenSheet}
 use Rattle.meaning_of_calls.specs.Shown.{_else_, shown, onList, WalkIs}
-use Rattle.meaning_of_calls.specs.Offices.{faces-told, edges-told, vertices-told, box-told, volume-told, check-told, faults-told, fit-told}
+use Rattle.meaning_of_calls.specs.Offices.{faces-told, edges-told, vertices-told, box-told, volume-told, check-told, faults-told, first-told, fit-told}
 use Rattle.meaning_of_calls.specs.Sheets.{take-told, stone-given}
 
 -- the marks that a call is lent on either memory
@@ -52,6 +52,7 @@ pub record SameTold (room w : List ℕ) (x : List Float) (room′ w′ : List �
   pub taken : (s : StoneSheet) → (takeNumber room w x o b (a .faces) s ≡ takeNumber room′ w′ x′ o b (a′ .faces) s) × (takenSheet room w x o b (a .faces) s ≡ takenSheet room′ w′ x′ o b (a′ .faces) s)
   pub report : (c : CheckOptions) (nums : List ℕ) → officeReport room w x o b c (a .faces) (a .edges) nums ≡ officeReport room′ w′ x′ o b c (a′ .faces) (a′ .edges) nums
   pub faults : (c : CheckOptions) (nums : List ℕ) → officeFaults room w x o b c (a .faces) (a .edges) nums ≡ officeFaults room′ w′ x′ o b c (a′ .faces) (a′ .edges) nums
+  pub first : (c : CheckOptions) → officeFirst room w x o b c (a .faces) (a .edges) ≡ officeFirst room′ w′ x′ o b c (a′ .faces) (a′ .edges)
   pub fit : officeFit room w x o b (a .faces) (a .edges) ≡ officeFit room′ w′ x′ o b (a′ .faces) (a′ .edges)
 
 -- a walk that is the same answer
@@ -103,6 +104,7 @@ module _ (room w : List ℕ) (x : List Float) (room′ w′ : List ℕ) (x′ : 
         taken = λ k. (take-same k (s .stone), sheet-same k (s .stone));
         report = λ c nums. check-told room w x o b (a .faces) (a .edges) c nums ∙ ap (shown _ _) (front _ _ _ _ two (s .report c)) ∙ sym (check-told room′ w′ x′ o b (a′ .faces) (a′ .edges) c nums);
         faults = λ c nums. faults-told room w x o b (a .faces) (a .edges) c nums ∙ ap (λ d. inFront (shown (λ q. faultsWords (kept (length nums / 4) q)) (λ _. []) d) nums) (front _ _ _ _ two (s .report c)) ∙ sym (faults-told room′ w′ x′ o b (a′ .faces) (a′ .edges) c nums);
+        first = λ c. first-told room w x o b (a .faces) (a .edges) c ∙ ap (shown _ _) (front _ _ _ _ two (s .report c)) ∙ sym (first-told room′ w′ x′ o b (a′ .faces) (a′ .edges) c);
         fit = fit-told room w x o b (a .faces) (a .edges) ∙ ap (shown _ _) (front _ _ _ _ two (s .fit)) ∙ sym (fit-told room′ w′ x′ o b (a′ .faces) (a′ .edges));
       }
 

@@ -32,7 +32,8 @@ use Rattle.inquire_bbox.specs.Boxes.{seenBox}
 use Rattle.inquire_box.specs.Answers.{boxNumber, boxAnswer}
 use Rattle.inquire_volume.specs.Answers.{volumeNumber, volumeAnswer}
 use Rattle.check_reasons.specs.Log.{faultsWords}
-use Rattle.check_report.specs.Calls.{seenCounts, reportOn, checkNumber, checkAnswer, fitAnswer}
+use Rattle.check_report.specs.Calls.{seenCounts, firstOf, told, reportOn, checkNumber, checkAnswer, fitAnswer}
+use Rattle.check_report.specs.declared.FirstFault.the-variants as Firsts
 use Rattle.split_place.specs.SplitNumber.{limits, officeSplitNumber}
 use Rattle.split_edge.specs.After.{officeSplitAnswer}
 use Rattle.station_answers.specs.declared.BoxFound.the-variants as Boxes
@@ -42,7 +43,7 @@ use Rattle.station_answers.specs.declared.Checked.the-variants as Checks
 use Rattle.station_answers.specs.declared.Sawable.the-variants as Saws
 use Rattle.office_bodies.specs.Answers.{entityFor, recordFor, officeBodyNumber, officeBody, officeContains, officeEntryNumber, officeEntry}
 use Rattle.office_walks.specs.Calls.{officeFacesNumber, officeFacesHanded, officeEdgesNumber, officeEdgesHanded, officeVerticesNumber, officeVerticesHanded}
-use Rattle.office_measures.specs.Answers.{officeBoxNumber, officeBox, officeVolumeNumber, officeVolume, officeCheckNumber, officeReport, officeFaults, officeFit}
+use Rattle.office_measures.specs.Answers.{officeBoxNumber, officeBox, officeVolumeNumber, officeVolume, officeCheckNumber, officeReport, officeFaults, officeFirst, officeFit}
 use Rattle.meaning_of_calls.specs.Shown.{_else_, shown, onList, WalkIs}
 use Rattle.meaning_of_calls.specs.Laws.{behind-one, behind-two, handed-answer, office-one, office-two, office-walk}
 use Rattle.meaning_of_calls.specs.Entries as Lists
@@ -138,7 +139,7 @@ module _ (room w : List ℕ) (x : List Float) (o : ℕ) where
         office-two Volumes.Is Volumes.Refused Volumes.Is (sumVolumes m zeroF (solidSides m (bodyFor m o b))) (bodyVolume m (bodyFor m o b)) (9 unless readable room w x)
         (officeRefusal o) (8 unless reach room FACES faceMarks) _ (volume-is room w x (bodyFor m o b) faceMarks)
 
-    -- ---- `check_body` and fit to saw
+    -- ---- `check_body`, its first fault and fit to saw
 
     module _ (faceMarks edgeMarks : List ℕ) where
       pub check-told : (c : CheckOptions) (nums : List ℕ)
@@ -164,6 +165,19 @@ module _ (room w : List ℕ) (x : List Float) (o : ℕ) where
           ∙ office-two (λ l. l) (λ _. []) (λ r. faultsWords (kept (length nums / 4) r)) (faultsWords (kept (length nums / 4) r)) (checkBody m c (bodyFor m o b)) (9 unless readable room w x)
           (officeRefusal o) (8 unless reach room FACES faceMarks && reach room EDGES edgeMarks) (checkRefusal m c (bodyFor m o b))
           (behind-two (λ l. l) (λ _. []) (λ r. faultsWords (kept (length nums / 4) r)) (9 unless readable room w x) (8 unless reach room FACES faceMarks && reach room EDGES edgeMarks) (checkRefusal m c (bodyFor m o b)) r))
+
+      -- W-207, "it gives the first entry of the full list for the same options, and "none" exactly where that list has no entry"
+      pub first-told : (c : CheckOptions)
+          → officeFirst room w x o b c faceMarks edgeMarks
+          ≡ shown (λ r. told (firstOf (r .faults))) Firsts.Refused
+          (9 unless readable room w x then officeRefusal o then 8 unless reach room FACES faceMarks && reach room EDGES edgeMarks else checkBody (decode room w x) c (bodyFor (decode room w x) o b))
+      unfolding officeFirst officeCheckNumber byOffice checkNumber reportOn
+      first-told c =
+          let m = decode room w x in
+          let r = reportOf (findings m c (bodyFor m o b)) in
+          office-two told Firsts.Refused (λ r. told (firstOf (r .faults))) (firstOf (r .faults)) (checkBody m c (bodyFor m o b)) (9 unless readable room w x) (officeRefusal o)
+          (8 unless reach room FACES faceMarks && reach room EDGES edgeMarks) (checkRefusal m c (bodyFor m o b))
+          (behind-two told Firsts.Refused (λ r. firstOf (r .faults)) (9 unless readable room w x) (8 unless reach room FACES faceMarks && reach room EDGES edgeMarks) (checkRefusal m c (bodyFor m o b)) r)
 
       pub fit-told : officeFit room w x o b faceMarks edgeMarks
           ≡ shown Saws.Is Saws.Refused

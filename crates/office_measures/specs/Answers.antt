@@ -1,4 +1,4 @@
--- What box, volume, report and fit to saw answer an office (W-206). Definitions only.
+-- What box, volume, report, its first fault and fit to saw answer an office (W-206). Definitions only.
 -- What each measures, and its refusals behind 9 and the office's 1, stand in `inquire_box`, `inquire_volume` and `check_report`.
 use Prim.Native.Nat.{ℕ, _/_}
 use mathlib.Core.List.{List, map}
@@ -16,7 +16,9 @@ use Rattle.inquire_bbox.specs.Boxes.{seenBox}
 use Rattle.inquire_box.specs.Answers.{boxNumber}
 use Rattle.inquire_volume.specs.Answers.{volumeNumber}
 use Rattle.check_reasons.specs.Log.{faultsWords}
-use Rattle.check_report.specs.Calls.{reportOn, seenCounts, checkNumber}
+use Rattle.check_report.specs.declared.FirstFault.{FirstFault}
+use Rattle.check_report.specs.declared.FirstFault.the-variants as Firsts
+use Rattle.check_report.specs.Calls.{reportOn, seenCounts, firstOf, told, checkNumber}
 use Rattle.memory_offices.specs.Sight.{byOffice, bodyAsked}
 use Rattle.station_answers.specs.declared.BoxFound.{BoxFound}
 use Rattle.station_answers.specs.declared.BoxFound.the-variants as Boxes
@@ -56,6 +58,10 @@ module _ (room w : List ℕ) (x : List Float) (o b : ℕ) where
   unfoldable pub officeFaults : CheckOptions → List ℕ → List ℕ → List ℕ → List ℕ
   officeFaults c faceMarks edgeMarks nums =
       inFront (handed (officeCheckNumber c faceMarks edgeMarks) (faultsWords (kept (length nums / 4) (reportOn room w x (bodyAsked room w x o b) c)))) nums
+
+  -- W-207: the first of them
+  unfoldable pub officeFirst : CheckOptions → List ℕ → List ℕ → FirstFault
+  officeFirst c faceMarks edgeMarks = answer told Firsts.Refused (officeCheckNumber c faceMarks edgeMarks) (firstOf (reportOn room w x (bodyAsked room w x o b) c .faults))
 
   unfoldable pub officeFit : List ℕ → List ℕ → Sawable
   officeFit faceMarks edgeMarks = answer Saws.Is Saws.Refused (officeCheckNumber sawing faceMarks edgeMarks) (sawable (decode room w x) (bodyAsked room w x o b))

@@ -8,7 +8,8 @@ use Rattle.memory_layout.specs.Readable.{tagNumber}
 use Rattle.walk_answers.specs.Calls.{inFront}
 use Rattle.inquire_box.specs.Answers.{boxNumber, boxAnswer}
 use Rattle.inquire_volume.specs.Answers.{volumeNumber, volumeAnswer}
-use Rattle.check_report.specs.Calls.{checkNumber, checkAnswer, checkWords, fitAnswer}
+use Rattle.check_report.specs.Calls.{told, checkNumber, checkAnswer, checkWords, firstAnswer, fitAnswer}
+use Rattle.check_report.specs.declared.FirstFault.the-variants as Firsts
 use Rattle.memory_offices.specs.Sight.{bodyAsked}
 use Rattle.memory_offices.specs.Laws.{answer-there, answer-above}
 use Rattle.office_walks.specs.Laws.{handed-there, handed-above}
@@ -16,7 +17,7 @@ use Rattle.station_answers.specs.declared.BoxFound.the-variants as Boxes
 use Rattle.station_answers.specs.declared.Volume.the-variants as Volumes
 use Rattle.station_answers.specs.declared.Checked.the-variants as Checks
 use Rattle.station_answers.specs.declared.Sawable.the-variants as Saws
-use Rattle.office_measures.specs.Answers.{officeBoxNumber, officeBox, officeVolumeNumber, officeVolume, officeCheckNumber, officeReport, officeFaults, officeFit}
+use Rattle.office_measures.specs.Answers.{officeBoxNumber, officeBox, officeVolumeNumber, officeVolume, officeCheckNumber, officeReport, officeFaults, officeFirst, officeFit}
 
 -- an office that there is
 module _ (room w : List ℕ) (x : List Float) (o b id : ℕ) (e : id ≡ bodyAsked room w x o b) (h : o ≤ 1) where
@@ -35,6 +36,10 @@ module _ (room w : List ℕ) (x : List Float) (o b id : ℕ) (e : id ≡ bodyAsk
   pub faults-there : (c : CheckOptions) (f g nums : List ℕ) → checkWords room w x id c f g nums ≡ officeFaults room w x o b c f g nums
   unfolding checkNumber checkWords officeCheckNumber officeFaults
   faults-there c f g nums = rw e (ap (λ l. inFront l nums) (handed-there room w x o _ _ h))
+
+  pub first-there : (c : CheckOptions) (f g : List ℕ) → firstAnswer room w x id c f g ≡ officeFirst room w x o b c f g
+  unfolding checkNumber firstAnswer officeCheckNumber officeFirst
+  first-there c f g = rw e (answer-there room w x o told Firsts.Refused _ _ h)
 
   pub fit-there : (f g : List ℕ) → fitAnswer room w x id f g ≡ officeFit room w x o b f g
   unfolding checkNumber fitAnswer officeCheckNumber officeFit
@@ -57,6 +62,10 @@ module _ (room w : List ℕ) (x : List Float) (o b k : ℕ) (h : 1 < o) (e : k �
   pub faults-above : (c : CheckOptions) (f g nums : List ℕ) → nums ≡ officeFaults room w x o b c f g nums
   unfolding officeCheckNumber officeFaults inFront
   faults-above c f g nums = ap (λ l. inFront l nums) (handed-above room w x o _ _ h)
+
+  pub first-above : (c : CheckOptions) (f g : List ℕ) → Firsts.Refused k ≡ officeFirst room w x o b c f g
+  unfolding officeCheckNumber officeFirst
+  first-above c f g = answer-above room w x o told Firsts.Refused _ k _ h e
 
   pub fit-above : (f g : List ℕ) → Saws.Refused k ≡ officeFit room w x o b f g
   unfolding officeCheckNumber officeFit

@@ -13,6 +13,7 @@ ghost use Rattle.split_place.specs.SplitNumber.{officeSplitNumber};
 ghost use Rattle.split_edge.specs.After.{officeSplitWords, officeSplitReals};
 ghost use Rattle.c_lent.specs.Lent.{was, lent, held};
 ghost use Rattle.c_answers.specs.Values.{wanted};
+ghost use Rattle.c_first.specs.Slots.{firstValue};
 ghost use Rattle.c_measures.specs.Measures.{boxValue, volumeValue, reportValue, fitValue};
 
 // The two corners of a body's box; `faces`, `edges` and `vertices` are seen marks.
@@ -117,6 +118,39 @@ pub extern "C" fn brunskerl_check_body(
         faces,
         edges,
         list,
+        value,
+    )
+}
+
+// The first fault of a body's report, or none; `faces` and `edges` are seen marks.
+#[no_mangle]
+pub extern "C" fn brunskerl_first_fault(
+    room: &[usize; 10],
+    words: &[u32],
+    reals: &[f64],
+    office: u32,
+    body: usize,
+    geometry: u32,
+    samples: usize,
+    faces: &mut [u8],
+    edges: &mut [u8],
+    value: &mut [u32; 5],
+) -> u32
+    ensures answer { λ r. ⌜ r ≡ lent officeCheckNumber room words reals office body (asked (wanted geometry) samples) (was faces) (was edges) ⌝ }
+    ensures slots { λ r. ⌜ now (value .exit) ≡ unlessRefused r (lent firstValue room words reals (bodyFor (held room words reals) office body) (asked (wanted geometry) samples)) (was value) ⌝ }
+    ensures faces { λ _. ⌜ now (faces .exit) ≡ replicate (length (was faces)) 0 ⌝ }
+    ensures edges { λ _. ⌜ now (edges .exit) ≡ replicate (length (was edges)) 0 ⌝ }
+{
+    c_first::first_of(
+        room,
+        words,
+        reals,
+        office,
+        body,
+        geometry,
+        samples,
+        faces,
+        edges,
         value,
     )
 }

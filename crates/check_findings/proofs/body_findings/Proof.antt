@@ -5,7 +5,7 @@ use Rattle.memory_layout.specs.Decode.{decode}
 use Rattle.memory_layout.specs.Laws.{fit-of, lists-of}
 use Rattle.check_reasons.specs.Laws.{enough-same, enough-first, enough-then, noted-same, noted-then}
 use Rattle.check_loop.specs.Loop.{options}
-use Rattle.check_findings.specs.Laws.{enough-findings, body-list, body-told}
+use Rattle.check_findings.specs.Laws.{body-list, body-told}
 use borrow.Author.Needs.{needs}
 use Rattle.check_findings.proofs.body_findings.Statement.{statement}
 use Rattle.check_findings.proofs.body_findings.Tie as tie
@@ -17,13 +17,13 @@ list-requires : tie.Need-list-requires
 list-requires c κs = ((lists-of _ _ _ (fit-of _ _ _ (c .before .before .before .before .before .pre .0))), (search needs, c .before .before .before .before .before .pre .1 .0 .1))
 
 region-layout-requires : tie.Need-region-layout-requires
-region-layout-requires c κs = ((fit-of _ _ _ (c .before .before .before .before .before .before .before .pre .0)), enough-first _ _ _ (enough-first _ _ _ (enough-same (body-told (decode (c .before .before .before .before .before .before .before .args .room .now) (c .before .before .before .before .before .before .before .args .words .now) (c .before .before .before .before .before .before .before .args .reals .now)) (options (c .before .before .before .before .before .before .before .args .geometry) (c .before .before .before .before .before .before .before .args .n)) (c .before .before .before .before .before .before .before .args .body) _ (c .before .list .ensures ∙ body-list (c .before .before .before .before .before .before .before .args .room .now) (c .before .before .before .before .before .before .before .args .words .now) (c .before .before .before .before .before .before .before .args .reals .now) (c .before .before .before .before .before .before .before .args .body))) (enough-findings (c .before .before .before .before .before .before .before .args .room .now) (c .before .before .before .before .before .before .before .args .words .now) (c .before .before .before .before .before .before .before .args .reals .now) (c .before .before .before .before .before .before .before .args .geometry) (c .before .before .before .before .before .before .before .args .n) (c .before .before .before .before .before .before .before .args .body) (lists-of _ _ _ (fit-of _ _ _ (c .before .before .before .before .before .before .before .pre .0))) (c .before .before .before .before .before .before .before .pre .1 .0 .0) (c .before .before .before .before .before .before .before .pre .1 .0 .1)))))
+region-layout-requires c κs = ((fit-of _ _ _ (c .before .before .before .before .before .before .before .pre .0)), enough-first _ _ _ (enough-first _ _ _ (enough-same (body-told (decode (c .before .before .before .before .before .before .before .args .room .now) (c .before .before .before .before .before .before .before .args .words .now) (c .before .before .before .before .before .before .before .args .reals .now)) (options (c .before .before .before .before .before .before .before .args .geometry) (c .before .before .before .before .before .before .before .args .n)) (c .before .before .before .before .before .before .before .args .body) _ (c .before .list .ensures ∙ body-list (c .before .before .before .before .before .before .before .args .room .now) (c .before .before .before .before .before .before .before .args .words .now) (c .before .before .before .before .before .before .before .args .reals .now) (c .before .before .before .before .before .before .before .args .body))) (c .before .before .before .before .before .before .before .pre .1 .1 .1 .1))))
 
 all-regions-requires : tie.Need-all-regions-requires
-all-regions-requires c κs = ((fit-of _ _ _ (c .before .before .before .before .before .before .before .before .before .before .before .pre .0)), (c .before .before .before .before .before .before .before .before .before .before .before .pre .1 .0 .0, enough-then (enough-first _ _ _ (enough-same (body-told (decode (c .before .before .before .before .before .before .before .before .before .before .before .args .room .now) (c .before .before .before .before .before .before .before .before .before .before .before .args .words .now) (c .before .before .before .before .before .before .before .before .before .before .before .args .reals .now)) (options (c .before .before .before .before .before .before .before .before .before .before .before .args .geometry) (c .before .before .before .before .before .before .before .before .before .before .before .args .n)) (c .before .before .before .before .before .before .before .before .before .before .before .args .body) _ (c .before .before .before .before .before .list .ensures ∙ body-list (c .before .before .before .before .before .before .before .before .before .before .before .args .room .now) (c .before .before .before .before .before .before .before .before .before .before .before .args .words .now) (c .before .before .before .before .before .before .before .before .before .before .before .args .reals .now) (c .before .before .before .before .before .before .before .before .before .before .before .args .body))) (enough-findings (c .before .before .before .before .before .before .before .before .before .before .before .args .room .now) (c .before .before .before .before .before .before .before .before .before .before .before .args .words .now) (c .before .before .before .before .before .before .before .before .before .before .before .args .reals .now) (c .before .before .before .before .before .before .before .before .before .before .before .args .geometry) (c .before .before .before .before .before .before .before .before .before .before .before .args .n) (c .before .before .before .before .before .before .before .before .before .before .before .args .body) (lists-of _ _ _ (fit-of _ _ _ (c .before .before .before .before .before .before .before .before .before .before .before .pre .0))) (c .before .before .before .before .before .before .before .before .before .before .before .pre .1 .0 .0) (c .before .before .before .before .before .before .before .before .before .before .before .pre .1 .0 .1)))) (c .before .before .before .region-layout .ensures)))
+all-regions-requires c κs = ((fit-of _ _ _ (c .before .before .before .before .before .before .before .before .before .before .before .pre .0)), (c .before .before .before .before .before .before .before .before .before .before .before .pre .1 .0 .0, enough-then (enough-first _ _ _ (enough-same (body-told (decode (c .before .before .before .before .before .before .before .before .before .before .before .args .room .now) (c .before .before .before .before .before .before .before .before .before .before .before .args .words .now) (c .before .before .before .before .before .before .before .before .before .before .before .args .reals .now)) (options (c .before .before .before .before .before .before .before .before .before .before .before .args .geometry) (c .before .before .before .before .before .before .before .before .before .before .before .args .n)) (c .before .before .before .before .before .before .before .before .before .before .before .args .body) _ (c .before .before .before .before .before .list .ensures ∙ body-list (c .before .before .before .before .before .before .before .before .before .before .before .args .room .now) (c .before .before .before .before .before .before .before .before .before .before .before .args .words .now) (c .before .before .before .before .before .before .before .before .before .before .before .args .reals .now) (c .before .before .before .before .before .before .before .before .before .before .before .args .body))) (c .before .before .before .before .before .before .before .before .before .before .before .pre .1 .1 .1 .1))) (c .before .before .before .region-layout .ensures)))
 
 solid-edges-requires : tie.Need-solid-edges-requires
-solid-edges-requires c κs = (c .before .before .before .before .before .before .before .before .before .before .before .before .before .before .before .before .before .pre .0, (c .before .before .before .before .before .before .before .before .before .before .before .before .before .before .before .before .before .pre .1 .0 .1, (c .before .before .before .before .before .before .before .before .before .before .before .before .before .before .before .before .before .pre .1 .1 .0, (c .before .before .before .before .before .before .before .before .before .before .before .before .before .before .before .before .before .pre .1 .1 .1, enough-then (enough-same (body-told (decode (c .before .before .before .before .before .before .before .before .before .before .before .before .before .before .before .before .before .args .room .now) (c .before .before .before .before .before .before .before .before .before .before .before .before .before .before .before .before .before .args .words .now) (c .before .before .before .before .before .before .before .before .before .before .before .before .before .before .before .before .before .args .reals .now)) (options (c .before .before .before .before .before .before .before .before .before .before .before .before .before .before .before .before .before .args .geometry) (c .before .before .before .before .before .before .before .before .before .before .before .before .before .before .before .before .before .args .n)) (c .before .before .before .before .before .before .before .before .before .before .before .before .before .before .before .before .before .args .body) _ (c .before .before .before .before .before .before .before .before .before .before .before .list .ensures ∙ body-list (c .before .before .before .before .before .before .before .before .before .before .before .before .before .before .before .before .before .args .room .now) (c .before .before .before .before .before .before .before .before .before .before .before .before .before .before .before .before .before .args .words .now) (c .before .before .before .before .before .before .before .before .before .before .before .before .before .before .before .before .before .args .reals .now) (c .before .before .before .before .before .before .before .before .before .before .before .before .before .before .before .before .before .args .body))) (enough-findings (c .before .before .before .before .before .before .before .before .before .before .before .before .before .before .before .before .before .args .room .now) (c .before .before .before .before .before .before .before .before .before .before .before .before .before .before .before .before .before .args .words .now) (c .before .before .before .before .before .before .before .before .before .before .before .before .before .before .before .before .before .args .reals .now) (c .before .before .before .before .before .before .before .before .before .before .before .before .before .before .before .before .before .args .geometry) (c .before .before .before .before .before .before .before .before .before .before .before .before .before .before .before .before .before .args .n) (c .before .before .before .before .before .before .before .before .before .before .before .before .before .before .before .before .before .args .body) (lists-of _ _ _ (fit-of _ _ _ (c .before .before .before .before .before .before .before .before .before .before .before .before .before .before .before .before .before .pre .0))) (c .before .before .before .before .before .before .before .before .before .before .before .before .before .before .before .before .before .pre .1 .0 .0) (c .before .before .before .before .before .before .before .before .before .before .before .before .before .before .before .before .before .pre .1 .0 .1))) (noted-then (c .before .before .before .before .before .before .before .before .before .region-layout .ensures) (c .before .before .before .before .before .all-regions .ensures))))))
+solid-edges-requires c κs = (c .before .before .before .before .before .before .before .before .before .before .before .before .before .before .before .before .before .pre .0, (c .before .before .before .before .before .before .before .before .before .before .before .before .before .before .before .before .before .pre .1 .0 .1, (c .before .before .before .before .before .before .before .before .before .before .before .before .before .before .before .before .before .pre .1 .1 .0, (c .before .before .before .before .before .before .before .before .before .before .before .before .before .before .before .before .before .pre .1 .1 .1 .0, enough-then (enough-same (body-told (decode (c .before .before .before .before .before .before .before .before .before .before .before .before .before .before .before .before .before .args .room .now) (c .before .before .before .before .before .before .before .before .before .before .before .before .before .before .before .before .before .args .words .now) (c .before .before .before .before .before .before .before .before .before .before .before .before .before .before .before .before .before .args .reals .now)) (options (c .before .before .before .before .before .before .before .before .before .before .before .before .before .before .before .before .before .args .geometry) (c .before .before .before .before .before .before .before .before .before .before .before .before .before .before .before .before .before .args .n)) (c .before .before .before .before .before .before .before .before .before .before .before .before .before .before .before .before .before .args .body) _ (c .before .before .before .before .before .before .before .before .before .before .before .list .ensures ∙ body-list (c .before .before .before .before .before .before .before .before .before .before .before .before .before .before .before .before .before .args .room .now) (c .before .before .before .before .before .before .before .before .before .before .before .before .before .before .before .before .before .args .words .now) (c .before .before .before .before .before .before .before .before .before .before .before .before .before .before .before .before .before .args .reals .now) (c .before .before .before .before .before .before .before .before .before .before .before .before .before .before .before .before .before .args .body))) (c .before .before .before .before .before .before .before .before .before .before .before .before .before .before .before .before .before .pre .1 .1 .1 .1)) (noted-then (c .before .before .before .before .before .before .before .before .before .region-layout .ensures) (c .before .before .before .before .before .all-regions .ensures))))))
 
 same-length : tie.Need-same-length
 same-length c = search needs

@@ -1,0 +1,12 @@
+-- `check_report::start` meets its contract. Assumes nothing.
+use Rattle.check_report.proofs.start.Statement.{statement}
+use Rattle.check_report.proofs.start.Tie as tie
+
+returns : tie.Need-returns
+returns c = rw (c .if1 .taken)
+
+returns-2 : tie.Need-returns-2
+returns-2 c = rw (c .if1 .left)
+
+pub start-spec : {M : Type 1} → statement M
+start-spec = tie.close (tie.spec returns returns-2)
