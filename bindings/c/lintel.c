@@ -1,4 +1,4 @@
-/* Lays out the trial stone, asks all that the header has, takes it in on a sheet, splits an edge, keeps it as bytes, is refused, also as the other office, and does so by both versions. What it must print is the file `stdout` beside it. */
+/* Lays out the trial stone, asks all that the header has, takes it in on a sheet, mends its pointers, splits an edge, keeps it as bytes, is refused, also as the other office, and does so by both versions. What it must print is the file `stdout` beside it. */
 #include <inttypes.h>
 #include <string.h>
 
@@ -77,6 +77,49 @@ static void report(void)
         printf("the first fault: none\n");
     else
         printf("the first fault: kind %u, class %u, id %u, reason %u\n", (unsigned)first[1], (unsigned)first[2], (unsigned)first[3], (unsigned)first[4]);
+}
+
+/* The changes of a mending, told or made. */
+static void mended(const char *what, int makes)
+{
+    uint32_t list[18];
+    size_t count[1];
+    uint32_t number = makes ? brunskerl_mend(ASKED, 0, MARKS, list, 18, &count) : brunskerl_mend_changes(ASKED, 0, MARKS, list, 18, &count);
+    told(what, number);
+    if (number != 0)
+        return;
+    printf("  %zu changes\n", count[0]);
+    for (size_t i = 0; i < count[0]; i++) {
+        const uint32_t *change = list + 6 * i;
+        printf("  class %u, id %u, field %u, place %u, old %u, new %u\n", (unsigned)change[0], (unsigned)change[1], (unsigned)change[2], (unsigned)change[3], (unsigned)change[4], (unsigned)change[5]);
+    }
+}
+
+/* Pointers made wrong and mended from the lists; then what is refused. The stone is as it was in the end. */
+static void pointers(void)
+{
+    uint32_t list[12];
+    size_t count[1];
+    mended("a sound stone mended", 1);
+    done(brunskerl_set_shell(LENT, 0, WORDS(1, 1)), "a shell of another region");
+    done(brunskerl_set_loop(LENT, 5, WORDS(1, 7)), "a loop of a face that is missing");
+    done(brunskerl_strike_entry(ASKED, 7, 4, 1), "a fin struck from its edge");
+    told("the changes on a list of two", brunskerl_mend_changes(ASKED, 0, MARKS, list, 12, &count));
+    told("the changes with a mark too few", brunskerl_mend_changes(ASKED, 0, marks, sizeof marks - 1, list, 12, &count));
+    mended("the changes told", 0);
+    office = 1;
+    mended("mended as office 1", 1);
+    office = 2;
+    mended("mended as office 2", 1);
+    office = 0;
+    mended("mended", 1);
+    mended("mended once more", 1);
+    done(brunskerl_append_entry(ASKED, 6, 1, 3), "a fin in a second loop");
+    mended("with a fin in two loops", 1);
+    done(brunskerl_append_entry(ASKED, 6, 1, 24), "a fin that is missing");
+    mended("with a fin that is missing too", 1);
+    for (unsigned k = 0; k < 2; k++)
+        done(brunskerl_strike_entry(ASKED, 6, 1, 4), "the fins struck");
 }
 
 static void split(size_t edge, double fraction)
@@ -236,6 +279,7 @@ int main(void)
     measured();
     stones();
     report();
+    pointers();
     entries();
     others();
     again();

@@ -79,6 +79,22 @@ static void split_line_edge(void)
 CALL(check_body, office, 0, 1, 3, EDGES, ids, 16, &counts)
 CALL(first_fault, office, 0, 1, 3, EDGES, SLOTS(5))
 CALL(fit_to_saw, office, 0, EDGES, SLOTS(1))
+/* A pointer that is wrong and a fin that its edge does not list are made before, so that there are changes to write. */
+static void harm(void)
+{
+    brunskerl_set_loop(LENT, 0, WORDS(1, 1));
+    brunskerl_strike_entry(LENT, office, 7, 0, 0);
+}
+static void mend_changes(void)
+{
+    harm();
+    brunskerl_mend_changes(LENT, office, 0, MARKS, ids, 16, &length);
+}
+static void mend(void)
+{
+    harm();
+    brunskerl_mend(LENT, office, 0, MARKS, ids, 16, &length);
+}
 CALL(image_length, &length)
 CALL(write_image, image, sizeof image, &length)
 CALL(read_image, image, kept[0])
@@ -94,7 +110,7 @@ static const struct {
     ROW(set_loop), ROW(set_fin), ROW(set_edge), ROW(set_vertex), ROW(set_curve), ROW(set_surface), ROW(set_fin_geometry), ROW(contains),
     ROW(list_entry), ROW(put_entry), ROW(append_entry), ROW(strike_entry), ROW(body_faces), ROW(body_edges), ROW(body_vertices),
     ROW(fin_vertices), ROW(body_bounding_box), ROW(body_volume), ROW(sheet_take), ROW(edge_parameter_bounds), ROW(split_line_edge), ROW(check_body),
-    ROW(first_fault), ROW(fit_to_saw), ROW(image_length), ROW(write_image), ROW(read_image), ROW(make),
+    ROW(first_fault), ROW(fit_to_saw), ROW(mend_changes), ROW(mend), ROW(image_length), ROW(write_image), ROW(read_image), ROW(make),
 };
 
 /* Makes the call, and gives how far below this frame it went. */

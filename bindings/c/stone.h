@@ -17,6 +17,9 @@ static size_t n, m;
 /* Seen marks, one for each record that there is room for. */
 static uint8_t faces[6], edges[13], vertices[9];
 
+/* Marks for the mending. */
+static uint8_t marks[BRUNSKERL_MEND_MARKS];
+
 /* The office that asks: the stone is office 0's. */
 static uint32_t office = 0;
 
@@ -26,6 +29,7 @@ static uint32_t office = 0;
 #define FACES faces, sizeof faces
 #define EDGES FACES, edges, sizeof edges
 #define VERTICES EDGES, vertices, sizeof vertices
+#define MARKS marks, sizeof marks
 
 /* An array of these values, of which a call takes the address. */
 #define WORDS(k, ...) &(const uint32_t[k]){__VA_ARGS__}

@@ -188,6 +188,25 @@ uint32_t brunskerl_first_fault(BRUNSKERL_MEMORY, uint32_t office, size_t body, u
  * 1 for the office, 8 for short marks, 2. */
 uint32_t brunskerl_fit_to_saw(BRUNSKERL_MEMORY, uint32_t office, size_t body, uint8_t *faces, size_t f, uint8_t *edges, size_t e, uint32_t (*fit)[1]);
 
+/* Mends back pointers, for a body whose lists are right and whose records name wrong parents. From the body's lists each region, shell, loop and fin that it reaches is
+ * made to name the record that lists it, and a fin that its edge does not list is added at the end of the edge's list; a face's front and back stay. mend_changes tells
+ * the changes alone, mend makes them too. A change is six words of `list`:
+ *   0  class, the record's table: 1 region, 2 shell, 4 loop, 5 fin, 6 edge
+ *   1  id
+ *   2  field: 0 the parent, 1 an edge's fins
+ *   3  place: 0 for a parent; that of an added fin in the edge's list
+ *   4  old value: the old parent; 0 for an added fin
+ *   5  new value: the new parent; the added fin
+ * They stand in the order of the walk: regions, shells, faces, loops and fins in list order, of a fin its parent and then its edge's list. A record that is met again, by
+ * a face that two shells list, has nothing more to change. `count` gets how many there are, at most two for each fin and one for each region, shell and loop. The words
+ * behind them stay, and so do words that make no whole entry. Behind mend the tables are the old ones with these changes made, and a second call finds none.
+ * Refusals: 9, 1 for the office, 8 for short marks, which are BRUNSKERL_MEND_MARKS bytes whatever the capacities are, 2 for a missing body, region, shell, face, loop, fin
+ * or fin's edge, 1 where a region, shell, loop or fin that the body reaches has two parents: where it stands twice in the lists of bodies, regions, faces or loops anywhere
+ * in the tables, also twice in one list; 8 for an edge that would list a ninth fin, or for more changes than `list` has room for. */
+#define BRUNSKERL_MEND_MARKS 6912
+uint32_t brunskerl_mend_changes(BRUNSKERL_MEMORY, uint32_t office, size_t body, uint8_t *marks, size_t k, uint32_t *list, size_t l, size_t (*count)[1]);
+uint32_t brunskerl_mend(BRUNSKERL_MEMORY_OUT, uint32_t office, size_t body, uint8_t *marks, size_t k, uint32_t *list, size_t l, size_t (*count)[1]);
+
 /* The model as bytes, to be kept: docs/IMAGE.md has the format. One model has one image, whatever the capacities are and whatever lies where it says
  * nothing. The length in bytes: 9. The image, put in the front of `bytes`, and its length: 9, 8 where b is less than that; the bytes behind it stay.
  * Reading replaces the model in the lent memory. What the memory held is not tested, so that none need be made there before: 9 where the capacities

@@ -47,6 +47,7 @@ calls! {
     brunskerl_fit_to_saw(office: u32, body: usize, faces: *mut u8, f: usize, edges: *mut u8, e: usize, fit: *mut [u32; 1]) -> u32;
     brunskerl_body_volume(office: u32, body: usize, faces: *mut u8, f: usize, volume: *mut [f64; 1]) -> u32;
     brunskerl_sheet_take(office: u32, body: usize, faces: *mut u8, f: usize, sheet: *mut [u64; 5]) -> u32;
+    brunskerl_mend_changes(office: u32, body: usize, marks: *mut u8, k: usize, list: *mut u32, l: usize, count: *mut [usize; 1]) -> u32;
     brunskerl_image_length(length: *mut [usize; 1]) -> u32;
     brunskerl_write_image(bytes: *mut u8, b: usize, length: *mut [usize; 1]) -> u32;
     ;
@@ -76,5 +77,6 @@ calls! {
     brunskerl_append_entry(office: u32, list: usize, id: usize, entry: u32) -> u32;
     brunskerl_split_line_edge(office: u32, edge: usize, fraction: f64, ids: *mut [u32; 3]) -> u32;
     brunskerl_strike_entry(office: u32, list: usize, id: usize, place: usize) -> u32;
+    brunskerl_mend(office: u32, body: usize, marks: *mut u8, k: usize, list: *mut u32, l: usize, count: *mut [usize; 1]) -> u32;
     brunskerl_read_image(bytes: *const u8, b: usize) -> u32;
 }

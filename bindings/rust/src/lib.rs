@@ -17,10 +17,13 @@
 //!
 //! [`Model::take`] takes a stone in on a [`Sheet`], in whole numbers.
 //!
+//! [`Model::mend`] mends the pointers upward of a body that came with right lists and wrong ones, and tells each [`Change`].
+//!
 //! [`Model::save`] gives a model as bytes, to be kept, and [`Model::load`] takes it back.
 //!
 //! The example `lintel` builds a box, checks it, splits an edge and prints the report.
 
+mod changes;
 mod directions;
 mod ffi;
 mod records;
@@ -30,6 +33,7 @@ mod words;
 
 use records::optional;
 
+pub use changes::Change;
 pub use records::{BodyKind, Carrier, Edge, Face, Fin, List, Office, Region, Sense, Version, Vertex};
 pub use sheet::{Sheet, Stone};
 pub use words::{Entity, Fault, Refusal};
@@ -652,6 +656,58 @@ impl Model {
             )
         ))?;
         Ok(fit[0] != 0)
+    }
+
+    // ---- mending
+
+    /// The changes that [`Model::mend`] would make, and none of them made; refused as it is.
+    pub fn mend_changes(&self, body: u32) -> Result<Vec<Change>, Refusal> {
+        let (mut marks, mut list) = self.lists_to_mend();
+        let mut count = [0];
+        Refusal::of(ask!(
+            self,
+            brunskerl_mend_changes(
+                self.office as u32,
+                body as usize,
+                marks.as_mut_ptr(),
+                marks.len(),
+                list.as_mut_ptr(),
+                list.len(),
+                &mut count
+            )
+        ))?;
+        Ok(list.chunks(changes::WORDS).take(count[0]).map(Change::of).collect())
+    }
+
+    /// Mends back pointers, for a body that came with right lists and wrong pointers upward: each region, shell, loop and fin that it reaches is made to name the
+    /// record that lists it, and an edge to list its fins. Gives the changes in the order of the walk; there are none where all was right, and none the second time.
+    /// A face's front and back stay as they are.
+    ///
+    /// [`Refusal::NotFound`] for a missing body, region, shell, face, loop, fin or fin's edge; then [`Refusal::BadArgument`] where a region, shell, loop or fin of
+    /// the body has two parents: where it stands twice in the lists, whosever they are; then [`Refusal::NoRoom`] for an edge that would list a ninth fin.
+    pub fn mend(&mut self, body: u32) -> Result<Vec<Change>, Refusal> {
+        let (mut marks, mut list) = self.lists_to_mend();
+        let mut count = [0];
+        tell!(
+            self,
+            brunskerl_mend(
+                self.office as u32,
+                body as usize,
+                marks.as_mut_ptr(),
+                marks.len(),
+                list.as_mut_ptr(),
+                list.len(),
+                &mut count
+            )
+        )?;
+        Ok(list.chunks(changes::WORDS).take(count[0]).map(Change::of).collect())
+    }
+
+    /// Marks, and a list for as many changes as there can be: two of each fin, one of each region, shell and loop.
+    fn lists_to_mend(&self) -> (Vec<u8>, Vec<u32>) {
+        let [_, regions, shells, _, loops, fins, ..] = self.room;
+        let most = regions + shells + loops + 2 * fins;
+        (vec![0; changes::MARKS], vec![0; changes::WORDS * most])
     }
 
     /// A fault in words, with the records beside it where the model tells them: 'vertex 12 lies off the surface of face 3'.

@@ -43,7 +43,7 @@ impl Refusal {
 impl fmt::Display for Refusal {
     fn fmt(&self, f: &mut fmt::Formatter<'_>) -> fmt::Result {
         f.write_str(match self {
-            Self::BadArgument => "refused: a value lies outside what the call takes",
+            Self::BadArgument => "refused: a value lies outside what the call takes, or a record has two parents",
             Self::NotFound => "refused: a record that is named or needed does not exist",
             Self::Degenerate => "refused: too short, too thin or empty at the session's precision",
             Self::OffGrid => "refused: a coordinate is off the grid of sixteenths of a millimetre, or too large for it",

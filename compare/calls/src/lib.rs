@@ -8,6 +8,8 @@ pub mod image_wrong;
 pub mod images;
 pub mod layout;
 pub mod measures;
+pub mod mend_wrong;
+pub mod mends;
 pub mod noise;
 pub mod office_wrong;
 pub mod offices;

@@ -1,5 +1,5 @@
-//! The station's larger calls, as a C program links them: splits, boxes, volumes, the checker, its first fault and the sheet. Each answer is numbers: 0 and the value's, or the
-//! refusal alone.
+//! The station's larger calls, as a C program links them: splits, boxes, volumes, the checker, its first fault, the sheet and the mending. Each answer is numbers: 0 and the value's, or
+//! the refusal alone.
 
 use models::plain::{Plain, bits};
 
@@ -106,6 +106,34 @@ unsafe extern "C" {
         faces: *mut u8,
         f: usize,
         sheet: *mut [u64; 5],
+    ) -> u32;
+    fn brunskerl_mend_changes(
+        room: Room,
+        words: *const u32,
+        n: usize,
+        reals: *const f64,
+        m: usize,
+        office: u32,
+        body: usize,
+        marks: *mut u8,
+        k: usize,
+        list: *mut u32,
+        l: usize,
+        count: *mut [usize; 1],
+    ) -> u32;
+    fn brunskerl_mend(
+        room: Room,
+        words: *mut u32,
+        n: usize,
+        reals: *mut f64,
+        m: usize,
+        office: u32,
+        body: usize,
+        marks: *mut u8,
+        k: usize,
+        list: *mut u32,
+        l: usize,
+        count: *mut [usize; 1],
     ) -> u32;
 }
 
@@ -385,6 +413,58 @@ impl Lent {
                 faces.as_mut_ptr(),
                 faces.len(),
                 sheet,
+            )
+        }
+    }
+
+    /// The number alone; the list and the count are written where they stand (W-208).
+    pub fn mend_changes(
+        &self,
+        body: usize,
+        (marks, list): (&mut [u8], &mut [u32]),
+        count: &mut [usize; 1],
+    ) -> u32 {
+        // SAFETY: the call reads the lent memory, writes to the marks, the list and the count, and keeps no address.
+        unsafe {
+            brunskerl_mend_changes(
+                &self.room,
+                self.words.as_ptr(),
+                self.words.len(),
+                self.reals.as_ptr(),
+                self.reals.len(),
+                self.office,
+                body,
+                marks.as_mut_ptr(),
+                marks.len(),
+                list.as_mut_ptr(),
+                list.len(),
+                count,
+            )
+        }
+    }
+
+    /// The same, and the tables are mended.
+    pub fn mend(
+        &mut self,
+        body: usize,
+        (marks, list): (&mut [u8], &mut [u32]),
+        count: &mut [usize; 1],
+    ) -> u32 {
+        // SAFETY: as above, and the call writes to the lent memory.
+        unsafe {
+            brunskerl_mend(
+                &self.room,
+                self.words.as_mut_ptr(),
+                self.words.len(),
+                self.reals.as_mut_ptr(),
+                self.reals.len(),
+                self.office,
+                body,
+                marks.as_mut_ptr(),
+                marks.len(),
+                list.as_mut_ptr(),
+                list.len(),
+                count,
             )
         }
     }

@@ -7,3 +7,4 @@ pub mod Tables
 pub mod Offices
 pub mod Sheets
 pub mod Isolated
+pub mod Mends

@@ -1,5 +1,6 @@
 // Inner: whether an edge is in a walk of the other office's bodies, and what it is for an office (W-206). No walk is made: where the other office has a body at all, one pass
 // over the tables, from the fins up, gives each record a status (`specs/Status.antt`), so that the cost is that of reading the tables once, whatever they list.
+// `mend_tests`, which makes such a pass too, calls `bit`, `greater` and `list_status`.
 use memory_layout::layout::words_of;
 use memory_layout::names::AT_FIN_EDGE;
 use memory_layout::names::BODIES;
@@ -29,7 +30,7 @@ ghost use Rattle.memory_layout.specs.Fit.{Lists};
 ghost use Rattle.split_foreign.specs.Status.{greater, greatest, standing, finStatus, recordStatus, bodyStatus, othersWith};
 ghost use Rattle.split_foreign.specs.Facts.{Fresh, Rows};
 
-fn bit(met: bool) -> u8
+pub fn bit(met: bool) -> u8
     ensures { λ r. ⌜ r ≡ bit met ⌝ }
 {
     if met {
@@ -38,7 +39,7 @@ fn bit(met: bool) -> u8
     0
 }
 
-fn greater(a: u8, b: u8) -> u8
+pub fn greater(a: u8, b: u8) -> u8
     ensures { λ r. ⌜ r ≡ greater a b ⌝ }
 {
     if a < b {
@@ -71,7 +72,7 @@ fn status_at(below: &[u8], i: usize) -> u8
 }
 
 // The greatest of what the entries lead to.
-fn list_status(below: &[u8], ids: &[u32]) -> u8
+pub fn list_status(below: &[u8], ids: &[u32]) -> u8
     ensures { λ r. ⌜ r ≡ greatest (standing (now (below .entry))) (now (ids .entry)) ⌝ }
 {
     let mut s = 0;

@@ -5,6 +5,7 @@ pub mod images;
 pub mod inserting;
 pub mod lookups;
 pub mod measuring;
+pub mod mending;
 pub mod models;
 pub mod setting;
 pub mod sheets;

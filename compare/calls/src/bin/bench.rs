@@ -5,6 +5,7 @@ use std::hint::black_box;
 use std::time::{Duration, Instant};
 
 use calls::layout::{LARGEST, Lent};
+use calls::mends::{MARKS, Mend, Rule, apply};
 use calls::walks::Walk;
 use gensolid_check::{CheckOptions, check_body};
 use gensolid_topo::{Model, body_bounding_box, body_volume, split_line_edge};
@@ -141,6 +142,48 @@ fn first_fault(model: &Model, names: &Names, room: [usize; 10], test: Duration) 
     }
 }
 
+/// The mending (W-208) beside the Rust of `mends.rs`, which was written from the request's words: of the body as it is, and with a wrong owner of every fin, which is
+/// written anew each time on both sides. The Rust works on its records, and does not test whether the memory can be read.
+fn mended(model: &Model, names: &Names, room: [usize; 10]) {
+    let plain = original::read(model, names);
+    let fins = plain.fins.len();
+    for (what, wrong) in [("nothing to change", false), ("every owner wrong", true)] {
+        let mut mend = Mend {
+            office: 0,
+            body: 0,
+            dry: false,
+            marks: vec![0; MARKS],
+            list: vec![0; 6 * fins],
+            count: 0,
+        };
+        let expected = if wrong { fins } else { 0 };
+        let other = plain.loops.len();
+        let mut records = plain.clone();
+        let rust = time(|| {
+            if wrong {
+                records.fins.iter_mut().for_each(|r| r.owner = other);
+            }
+            let changes = mend.changes(black_box(&records), &room, &Rule::REQUEST);
+            let changes = changes.expect("it can be mended");
+            assert_eq!(changes.len(), expected, "as many changes");
+            apply(&mut records, black_box(&changes));
+        });
+        let mut lent = Lent::holding(&plain, room, 0, 0.0);
+        let first = lent.word_at(5, 0);
+        let ours = time(|| {
+            if wrong {
+                let fins = lent.words[first..][..4 * fins].chunks_exact_mut(4);
+                fins.for_each(|fin| fin[0] = other as u32);
+            }
+            let mut count = [0];
+            let lists = (&mut mend.marks[..], &mut mend.list[..]);
+            assert_eq!(black_box(&mut lent).mend(0, lists, &mut count), 0, "mended");
+            assert_eq!(black_box(count), [expected], "as many changes");
+        });
+        row(&format!("mend, {what}"), rust, ours);
+    }
+}
+
 fn larger(model: &Model, names: &Names, lent: &Lent) {
     let body = names.bodies[0];
     let rust = time(|| drop(black_box(body_bounding_box(model, body))));
@@ -239,6 +282,7 @@ fn main() {
             larger(model, &names, &lent);
             if plain.edges.len() == 2000 {
                 first_fault(model, &names, room, test);
+                mended(model, &names, room);
             }
         }
     }

@@ -1,0 +1,5 @@
+pub mod Statements
+pub mod Due
+pub mod One
+pub mod All
+pub mod Again

@@ -1,0 +1,3 @@
+pub mod Status
+pub mod Laws
+pub mod Graded
