@@ -61,6 +61,23 @@ static void stones(void)
     office = 0;
 }
 
+/* The stone as binary STL: too few bytes, enough, and a corner that binary32 does not hold. */
+static void drawn(void)
+{
+    static uint8_t file[1024];
+    size_t length[1], written[1];
+    done(brunskerl_stl_length(ASKED, 0, FACES, &length), "the length of the STL");
+    told("an STL one byte too short", brunskerl_write_stl(ASKED, 0, FACES, file, length[0] - 1, &written));
+    done(brunskerl_write_stl(ASKED, 0, FACES, file, sizeof file, &written), "the STL");
+    printf("an STL of %zu bytes: %u triangles\n", written[0], (unsigned)file[80]);
+    done(brunskerl_set_vertex(LENT, 7, WORDS(1, 0), FLOATS(4, 4, 3, 2.1, 0)), "a corner moved");
+    told("the STL with a corner at 2.1", brunskerl_write_stl(ASKED, 0, FACES, file, sizeof file, &written));
+    done(brunskerl_set_vertex(LENT, 7, WORDS(1, 0), FLOATS(4, 4, 3, 2, 0)), "the corner moved back");
+    office = 1;
+    told("the STL, as office 1", brunskerl_write_stl(ASKED, 0, FACES, file, sizeof file, &written));
+    office = 0;
+}
+
 static void report(void)
 {
     uint32_t list[16], fit[1], first[5];
@@ -278,6 +295,7 @@ int main(void)
     walks();
     measured();
     stones();
+    drawn();
     report();
     pointers();
     entries();

@@ -19,6 +19,9 @@ static double floats[6];
 static uint8_t image[4096];
 static size_t kept[1];
 
+/* The trial stone as binary STL. */
+static uint8_t file[1024];
+
 #define SLOTS(k) (uint32_t(*)[k]) ids
 #define REALS(k) (double(*)[k]) floats
 #define CALL(name, ...) static void name(void) { brunskerl_##name(LENT, __VA_ARGS__); }
@@ -69,6 +72,8 @@ CALL(fin_vertices, 0, SLOTS(4))
 CALL(body_bounding_box, office, 0, VERTICES, REALS(6))
 CALL(body_volume, office, 0, FACES, REALS(1))
 CALL(sheet_take, office, 0, FACES, &sheet)
+CALL(stl_length, office, 0, FACES, &length)
+CALL(write_stl, office, 0, FACES, file, sizeof file, &length)
 CALL(edge_parameter_bounds, 0, REALS(2))
 /* By the other office, which walks the body and is refused, and by its own. */
 static void split_line_edge(void)
@@ -109,7 +114,7 @@ static const struct {
     ROW(insert_vertex), ROW(insert_curve), ROW(insert_surface), ROW(set_body), ROW(set_region), ROW(set_shell), ROW(set_face),
     ROW(set_loop), ROW(set_fin), ROW(set_edge), ROW(set_vertex), ROW(set_curve), ROW(set_surface), ROW(set_fin_geometry), ROW(contains),
     ROW(list_entry), ROW(put_entry), ROW(append_entry), ROW(strike_entry), ROW(body_faces), ROW(body_edges), ROW(body_vertices),
-    ROW(fin_vertices), ROW(body_bounding_box), ROW(body_volume), ROW(sheet_take), ROW(edge_parameter_bounds), ROW(split_line_edge), ROW(check_body),
+    ROW(fin_vertices), ROW(body_bounding_box), ROW(body_volume), ROW(sheet_take), ROW(stl_length), ROW(write_stl), ROW(edge_parameter_bounds), ROW(split_line_edge), ROW(check_body),
     ROW(first_fault), ROW(fit_to_saw), ROW(mend_changes), ROW(mend), ROW(image_length), ROW(write_image), ROW(read_image), ROW(make),
 };
 

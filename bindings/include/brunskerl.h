@@ -151,6 +151,16 @@ uint32_t brunskerl_body_volume(BRUNSKERL_MEMORY, uint32_t office, size_t body, u
  * of each face, 8 where the sheet has 65,536 stones. A refusal leaves all five words. */
 uint32_t brunskerl_sheet_take(BRUNSKERL_MEMORY, uint32_t office, size_t body, uint8_t *faces, size_t f, uint64_t (*sheet)[5]);
 
+/* The body as binary STL, for the viewer: an 80-byte header of zeros, the number of triangles in 32 bits, then 50 bytes for each triangle, a normal of zeros, its three
+ * corners and an attribute of zeros; all numbers little-endian, coordinates in binary32. The triangles are the fans that the volume uses, in its order and outward, the
+ * fins less two of each face that it takes: a fan of a face that is not convex can reach beyond it, and a triangle is flat where an edge was split. The file is what the
+ * volume measures.
+ * The length in bytes, which is 84 and 50 for each triangle: 9, 1 for the office, 8 for short marks, all of the volume's, 5 where a coordinate of the fans' points is not
+ * finite or no binary32 value; both zeros and subnormals are. The file, put in the front of `bytes`, and its length: these, then 8 where b is less than that. A refusal
+ * leaves every byte and the length; the bytes behind the file's end always stay. */
+uint32_t brunskerl_stl_length(BRUNSKERL_MEMORY, uint32_t office, size_t body, uint8_t *faces, size_t f, size_t (*length)[1]);
+uint32_t brunskerl_write_stl(BRUNSKERL_MEMORY, uint32_t office, size_t body, uint8_t *faces, size_t f, uint8_t *bytes, size_t b, size_t (*length)[1]);
+
 /* The parameters of an edge's ends on its line, and the split at a fraction between them: that edge, the new edge, the new
  * vertex. The line's direction must have the length 1, or the new vertex can lie beyond the edge's end.
  * The parameters: 9, then tests 2 and 4 to 8 of these, whosever edge it is. The split: 9, 1 for the office, then

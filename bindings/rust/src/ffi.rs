@@ -48,6 +48,8 @@ calls! {
     brunskerl_body_volume(office: u32, body: usize, faces: *mut u8, f: usize, volume: *mut [f64; 1]) -> u32;
     brunskerl_sheet_take(office: u32, body: usize, faces: *mut u8, f: usize, sheet: *mut [u64; 5]) -> u32;
     brunskerl_mend_changes(office: u32, body: usize, marks: *mut u8, k: usize, list: *mut u32, l: usize, count: *mut [usize; 1]) -> u32;
+    brunskerl_stl_length(office: u32, body: usize, faces: *mut u8, f: usize, length: *mut [usize; 1]) -> u32;
+    brunskerl_write_stl(office: u32, body: usize, faces: *mut u8, f: usize, bytes: *mut u8, b: usize, length: *mut [usize; 1]) -> u32;
     brunskerl_image_length(length: *mut [usize; 1]) -> u32;
     brunskerl_write_image(bytes: *mut u8, b: usize, length: *mut [usize; 1]) -> u32;
     ;

@@ -546,6 +546,33 @@ impl Model {
         ))
     }
 
+    /// The body as binary STL, for a viewer: the triangles of the fans that [`Model::body_volume`] uses, in its order and outward, with normals, header and attributes
+    /// of zeros. It is what the volume measures: a fan of a face that is not convex can reach beyond it.
+    ///
+    /// Refused as the volume is; then [`Refusal::OffGrid`] where a coordinate of a face's corner is not finite or no binary32 value.
+    pub fn stl(&self, body: u32) -> Result<Vec<u8>, Refusal> {
+        let [mut f, ..] = self.marks();
+        let mut length = [0];
+        Refusal::of(ask!(
+            self,
+            brunskerl_stl_length(self.office as u32, body as usize, f.as_mut_ptr(), f.len(), &mut length)
+        ))?;
+        let mut bytes = vec![0; length[0]];
+        Refusal::of(ask!(
+            self,
+            brunskerl_write_stl(
+                self.office as u32,
+                body as usize,
+                f.as_mut_ptr(),
+                f.len(),
+                bytes.as_mut_ptr(),
+                bytes.len(),
+                &mut length
+            )
+        ))?;
+        Ok(bytes)
+    }
+
     /// The parameters of the edge's start and end on its line.
     ///
     /// [`Refusal::NotFound`] for a missing record, [`Refusal::BadArgument`] for no curve, [`Refusal::Unresolved`] for an end that is none, a curve that is

@@ -46,7 +46,7 @@ impl fmt::Display for Refusal {
             Self::BadArgument => "refused: a value lies outside what the call takes, or a record has two parents",
             Self::NotFound => "refused: a record that is named or needed does not exist",
             Self::Degenerate => "refused: too short, too thin or empty at the session's precision",
-            Self::OffGrid => "refused: a coordinate is off the grid of sixteenths of a millimetre, or too large for it",
+            Self::OffGrid => "refused: a coordinate is off the grid of sixteenths of a millimetre, or too large for it; of a drawing, it is no binary32 value",
             Self::NotSolid => "refused: the body is not a solid",
             Self::Unresolved => "refused: the geometry is not carried, or a sign is in doubt",
             Self::NoRoom => "refused: no room is left in a table, in a list or on the sheet, or the body has too many triangles for it",

@@ -1,4 +1,4 @@
-//! The station's larger calls, as a C program links them: splits, boxes, volumes, the checker, its first fault, the sheet and the mending. Each answer is numbers: 0 and the value's, or
+//! The station's larger calls, as a C program links them: splits, boxes, volumes, the checker, its first fault, the sheet, the mending and the drawing. Each answer is numbers: 0 and the value's, or
 //! the refusal alone.
 
 use models::plain::{Plain, bits};
@@ -80,6 +80,32 @@ unsafe extern "C" {
         edges: *mut u8,
         e: usize,
         fault: *mut [u32; 5],
+    ) -> u32;
+    fn brunskerl_stl_length(
+        room: Room,
+        words: *const u32,
+        n: usize,
+        reals: *const f64,
+        m: usize,
+        office: u32,
+        body: usize,
+        faces: *mut u8,
+        f: usize,
+        value: *mut [usize; 1],
+    ) -> u32;
+    fn brunskerl_write_stl(
+        room: Room,
+        words: *const u32,
+        n: usize,
+        reals: *const f64,
+        m: usize,
+        office: u32,
+        body: usize,
+        faces: *mut u8,
+        f: usize,
+        bytes: *mut u8,
+        b: usize,
+        value: *mut [usize; 1],
     ) -> u32;
     fn brunskerl_fit_to_saw(
         room: Room,
@@ -332,7 +358,10 @@ impl Lent {
             let [kind, class, id, reason] = [0, 1, 2, 3].map(|k| u64::from(fault[k]));
             [reason, kind, class, id]
         });
-        let given = [0, unchecked as u64].into_iter().chain(faults_kept).collect();
+        let given = [0, unchecked as u64]
+            .into_iter()
+            .chain(faults_kept)
+            .collect();
         (cleared(&marks[..2], given), faults)
     }
 
@@ -465,6 +494,52 @@ impl Lent {
                 list.as_mut_ptr(),
                 list.len(),
                 count,
+            )
+        }
+    }
+
+    /// The number alone; the length is put into its slot (W-209).
+    pub fn stl_length(&self, body: usize, faces: &mut [u8], value: &mut [usize; 1]) -> u32 {
+        // SAFETY: the call reads the lent memory, writes to the marks and the slot, and keeps no address.
+        unsafe {
+            brunskerl_stl_length(
+                &self.room,
+                self.words.as_ptr(),
+                self.words.len(),
+                self.reals.as_ptr(),
+                self.reals.len(),
+                self.office,
+                body,
+                faces.as_mut_ptr(),
+                faces.len(),
+                value,
+            )
+        }
+    }
+
+    /// The number alone; the bytes are written where they stand (W-209).
+    pub fn write_stl(
+        &self,
+        body: usize,
+        faces: &mut [u8],
+        bytes: &mut [u8],
+        value: &mut [usize; 1],
+    ) -> u32 {
+        // SAFETY: the call reads the lent memory, writes to the marks, the bytes and the slot, and keeps no address.
+        unsafe {
+            brunskerl_write_stl(
+                &self.room,
+                self.words.as_ptr(),
+                self.words.len(),
+                self.reals.as_ptr(),
+                self.reals.len(),
+                self.office,
+                body,
+                faces.as_mut_ptr(),
+                faces.len(),
+                bytes.as_mut_ptr(),
+                bytes.len(),
+                value,
             )
         }
     }

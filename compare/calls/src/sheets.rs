@@ -259,6 +259,23 @@ impl Stone {
         Some(self.whole(rule)?.into_iter().map(number).collect())
     }
 
+    /// What the volume is refused with, and in words; 0 where it is not.
+    pub fn volume(&self) -> (u32, &str) {
+        (self.volume.numbers[0] as u32, &self.volume.words)
+    }
+
+    /// The faces that the volume goes over, in its order: whether it is listed again, whether the shell is its front, and the points of its loop.
+    pub fn faces(&self) -> impl Iterator<Item = (bool, bool, &[Triple])> {
+        self.sides
+            .iter()
+            .map(|side| (side.again, side.front, &side.points[..]))
+    }
+
+    /// All points of the walk.
+    pub fn points(&self) -> &[Triple] {
+        &self.walked
+    }
+
     /// The stone's number, where the request has one for it.
     pub fn number(&self) -> Option<i128> {
         let numbers = self.numbers(&Rule::REQUEST)?;

@@ -114,6 +114,31 @@ fn prism(n: usize, radius: f64, height: f64) -> Mesh {
     }
 }
 
+/// A square slab of twice an outer half-width, with a square hole of twice an inner one right through it: the ring above and the one below are four faces each.
+fn pierced(outer: f64, inner: f64, height: f64) -> Mesh {
+    let corner = |k: usize| {
+        let (half, z) = (
+            if k & 4 == 0 { outer } else { inner },
+            if k < 8 { 0.0 } else { height },
+        );
+        let [x, y] = [[-1.0, -1.0], [1.0, -1.0], [1.0, 1.0], [-1.0, 1.0]][k % 4];
+        [half * x, half * y, z]
+    };
+    let faces = (0..4).flat_map(|k| {
+        let next = (k + 1) % 4;
+        [
+            vec![k, next, 8 + next, 8 + k],
+            vec![4 + next, 4 + k, 12 + k, 12 + next],
+            vec![8 + k, 8 + next, 12 + next, 12 + k],
+            vec![next, k, 4 + k, 4 + next],
+        ]
+    });
+    Mesh {
+        points: (0..16).map(corner).collect(),
+        faces: faces.map(|cycle| vec![cycle]).collect(),
+    }
+}
+
 fn tetrahedron(a: f64, b: f64, c: f64) -> Mesh {
     Mesh {
         points: vec![[0.0; 3], [a, 0.0, 0.0], [0.0, b, 0.0], [0.0, 0.0, c]],
@@ -457,6 +482,26 @@ impl Plain {
             let mut random = Random::new(1, k as u64, 0);
             plain.solid(&mut random, &prism(sides, 40.0, 10.0), &place, style);
         }
+        plain
+    }
+
+    /// A slab with a hole through it, of binary32 values.
+    pub fn pierced() -> Self {
+        let mut plain = Self {
+            precision: 0.001,
+            ..Self::default()
+        };
+        let style = Style {
+            either: false,
+            shifted: false,
+        };
+        let mut random = Random::new(1, 0, 0);
+        plain.solid(
+            &mut random,
+            &pierced(40.0, 12.5, 20.25),
+            &Place::ORIGIN,
+            style,
+        );
         plain
     }
 

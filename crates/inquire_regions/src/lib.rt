@@ -135,7 +135,7 @@ fn with_shells(
 }
 
 // The shells of a region that is solid, of another none.
-fn solid_shells<'a>(room: &[usize; 10], words: &'a [u32], region: usize) -> &'a [u32]
+pub fn solid_shells<'a>(room: &[usize; 10], words: &'a [u32], region: usize) -> &'a [u32]
     requires { ⌜ Lists (now room) (now words) ⌝ }
     requires { ⌜ region < word (now words) REGIONS ⌝ }
     ensures { λ r. ⌜ now r ≡ solidShells (now (room .entry)) (now (words .entry)) region ⌝ }

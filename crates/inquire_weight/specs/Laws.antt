@@ -105,7 +105,7 @@ module _ (room w : List ℕ) (x : List Float) (s f : ℕ) where
   abbrev points : List Point3
   points = map (startPoint (decode room w x)) (rimOf room w f)
 
-  side-points : turned (isAt (wordsOf room w 3 f) 0 s) points ≡ sidePoints (decode room w x) side
+  pub side-points : turned (isAt (wordsOf room w 3 f) 0 s) points ≡ sidePoints (decode room w x) side
   unfolding sidePoints turned
   side-points = ap (λ a. turned a points) (is-words (wordsOf room w 3 f) 0 s) ∙ (unfold decode listOf rimOf startPoint in refl)
 

@@ -5,7 +5,10 @@ use std::hint::black_box;
 use std::time::{Duration, Instant};
 
 use calls::layout::{LARGEST, Lent};
-use calls::mends::{MARKS, Mend, Rule, apply};
+use calls::mends::{self, MARKS, Mend, apply};
+use calls::offices::Station;
+use calls::sheets::Stone;
+use calls::stl::{self, file};
 use calls::walks::Walk;
 use gensolid_check::{CheckOptions, check_body};
 use gensolid_topo::{Model, body_bounding_box, body_volume, split_line_edge};
@@ -86,6 +89,41 @@ fn whole_number(model: &Model, names: &Names, lent: &Lent) {
     );
 }
 
+/// The body as binary STL (W-209), on the same model with its points made binary32 values: beside the writer in Rust that the comparison goes by, which asks the Rust's
+/// volume as ours asks its own; and how many bytes of file a second.
+fn drawing(model: &Model, names: &Names, lent: &Lent) {
+    let mut plain = original::read(model, names);
+    for x in plain.vertices.iter_mut().flat_map(|r| &mut r.point) {
+        *x = f64::from(*x as f32);
+    }
+    let lent = Lent::holding(&plain, lent.room, 0, 0.0);
+    let narrow = original::build(&mut plain, names).expect("the Rust makes it");
+    let station = Station {
+        model: &narrow,
+        names,
+        plain: &plain,
+    };
+    let rust = time(|| drop(black_box(file(&Stone::of(station, 0, 0), &stl::Rule::REQUEST))));
+    let long = file(&Stone::of(station, 0, 0), &stl::Rule::REQUEST)
+        .expect("binary32 values")
+        .len();
+    let mut bytes = vec![0; long];
+    let ours = time(|| {
+        let [mut faces, ..] = lent.marks(0);
+        let number = black_box(&lent).write_stl(0, &mut faces, &mut bytes, &mut [0]);
+        assert_eq!(number, 0, "a drawing");
+        black_box(&bytes);
+    });
+    row("binary STL", rust, ours);
+    let rate = |time: Duration| long as f64 / time.as_secs_f64() / 1e6;
+    println!(
+        "  {:24} Rust {:>7.1} MB/s, ours {:>7.1} MB/s, of {long} bytes",
+        "binary STL",
+        rate(rust),
+        rate(ours)
+    );
+}
+
 /// The fins in the order in which the report comes to them, each with its region's place in the body.
 fn checked(plain: &Plain) -> Vec<(usize, usize)> {
     let mut fins = Vec::new();
@@ -163,7 +201,7 @@ fn mended(model: &Model, names: &Names, room: [usize; 10]) {
             if wrong {
                 records.fins.iter_mut().for_each(|r| r.owner = other);
             }
-            let changes = mend.changes(black_box(&records), &room, &Rule::REQUEST);
+            let changes = mend.changes(black_box(&records), &room, &mends::Rule::REQUEST);
             let changes = changes.expect("it can be mended");
             assert_eq!(changes.len(), expected, "as many changes");
             apply(&mut records, black_box(&changes));
@@ -191,6 +229,7 @@ fn larger(model: &Model, names: &Names, lent: &Lent) {
     let rust = time(|| drop(black_box(body_volume(model, body))));
     row("volume", rust, time(|| drop(black_box(lent.volume(0, 0)))));
     whole_number(model, names, lent);
+    drawing(model, names, lent);
     for (what, geometry) in [("report, topology", false), ("report, 3 samples", true)] {
         let options = CheckOptions { geometry, edge_samples: 3 };
         let rust = time(|| drop(black_box(check_body(model, body, &options))));

@@ -4,11 +4,12 @@
 use std::env;
 use std::process::ExitCode;
 
-use calls::layout::{LARGEST, LISTS, Lent};
+use calls::layout::{LARGEST, Lent};
 use calls::noise::{around, wild};
 use calls::offices::Station;
 use calls::sheet_wrong::{How, WRONGS};
 use calls::sheets::{Rule, Sheet, Stone, Take, Taken, limit, total, with_total};
+use calls::solids::{again, equal, turned};
 use calls::spoil::spoil;
 use calls::tally::Tally;
 use models::original::{self, Names};
@@ -105,43 +106,6 @@ fn gridded(plain: &mut Plain, random: &mut Random) -> String {
     told
 }
 
-/// Faces turned to their other side: all of them, or one.
-fn turned(plain: &mut Plain, random: &mut Random) -> String {
-    let one = random.below(plain.faces.len().max(1));
-    let all = random.one_in(2);
-    for (_, r) in plain
-        .faces
-        .iter_mut()
-        .enumerate()
-        .filter(|&(k, _)| all || k == one)
-    {
-        (r.front, r.back) = (r.back, r.front);
-    }
-    if all {
-        "turned inside out".into()
-    } else {
-        format!("face {one} turned")
-    }
-}
-
-/// A face, a shell or a region that a list has once more.
-fn again(plain: &mut Plain, random: &mut Random) -> Option<String> {
-    let table = random.below(3);
-    let id = random.below(plain.used()[table].max(1));
-    let list = match table {
-        0 => &mut plain.bodies.get_mut(id)?.regions,
-        1 => &mut plain.regions.get_mut(id)?.shells,
-        _ => &mut plain.shells.get_mut(id)?.faces,
-    };
-    let entry = *list.get(random.below(list.len().max(1)))?;
-    if list.len() == LISTS[table].2 {
-        return None;
-    }
-    list.insert(random.below(list.len() + 1), entry);
-    let name = ["body", "region", "shell"][table];
-    Some(format!("{name} {id} lists {entry} again"))
-}
-
 /// A point off the grid that is in no fan: an acorn vertex, or one that is nobody's.
 fn loose(plain: &mut Plain, random: &mut Random) -> String {
     plain.vertices.push(Vertex {
@@ -155,16 +119,6 @@ fn loose(plain: &mut Plain, random: &mut Random) -> String {
         None => return format!("vertex {id} of nobody"),
     }
     format!("acorn vertex {id} of shell {shell}")
-}
-
-/// Another body of the same regions: an equal.
-fn equal(plain: &mut Plain, random: &mut Random) -> String {
-    let body = random.below(plain.bodies.len());
-    plain.bodies.push(plain.bodies[body].clone());
-    format!(
-        "body {} has the regions of body {body}",
-        plain.bodies.len() - 1
-    )
 }
 
 /// A prism brought to so many triangles: its last face is listed again and again, its loops go over their fins again and again, up to 1,024 of them, and its shell is

@@ -1,0 +1,4 @@
+pub mod Narrow
+pub mod Digits
+pub mod Laws
+pub mod Evaluated
