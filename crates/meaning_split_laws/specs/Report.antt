@@ -43,13 +43,13 @@ regions-report-kept x m e t w h b hb =
 -- ---- manifold edges
 
 -- an edge without a fault has two fins, of two senses
-record TwoFins (m : Model) (l : List ℕ) : Type 0 where
-  i : ℕ
-  j : ℕ
-  both : l ≡ (i ∷ j ∷ [])
-  senses : (has (m .fins) i && has (m .fins) j && sameSense (fin m i .sense) (fin m j .sense)) ≡ false
+pub record TwoFins (m : Model) (l : List ℕ) : Type 0 where
+  pub i : ℕ
+  pub j : ℕ
+  pub both : l ≡ (i ∷ j ∷ [])
+  pub senses : (has (m .fins) i && has (m .fins) j && sameSense (fin m i .sense) (fin m j .sense)) ≡ false
 
-two-fins : (m : Model) (e : ℕ) (l : List ℕ) → NoFault (manifold m e l) → TwoFins m l
+pub two-fins : (m : Model) (e : ℕ) (l : List ℕ) → NoFault (manifold m e l) → TwoFins m l
 unfolding manifold
 two-fins m e [] h = absurd (one-fault 19 e [] h)
 two-fins m e (i ∷ []) h = absurd (one-fault 19 e [] h)

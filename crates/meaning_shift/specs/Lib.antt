@@ -1,0 +1,10 @@
+pub mod Integers
+pub mod Corners
+pub mod Sums
+pub mod Moving
+pub mod Fins
+pub mod Exchange
+pub mod Sides
+pub mod Grid
+pub mod Statements
+pub mod Evaluated
