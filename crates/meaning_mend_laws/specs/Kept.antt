@@ -14,9 +14,9 @@ use Rattle.meaning.specs.Walks.{faceWalk, facesRefusal, edgeWalk, edgesRefusal,
 use Rattle.meaning_list_laws.specs.Tests.{and-both, and-true, and-false, or-none, then-zero, unless-zero}
 use Rattle.meaning_list_laws.specs.Lists.{member-append, member-none, member-cons, member-one, member-snoc, member-tail, member-head, count-none, count-cons, count-absent, meet-old, meet-new}
 use Rattle.meaning_mends.specs.Mends.{Child, aRegion, aShell, aLoop, aFin, named, Meeting, met, meetings, sameChild, once, bodyThere, listsRefusal, fits, changes, mendRefusal, mended}
-use Rattle.meaning_mends.specs.Laws.{Has, Each, wantsAll, Met, all-mended}
+use Rattle.meaning_mends.specs.Laws.{child-of, Has, Each, wantsAll, Met, all-mended}
 use Rattle.meaning_mend_laws.specs.Terms.{linked, listing, idsOf, reached, parentBy, newParent, naming, newListing, OnlyOf, SameLists, SameWalks, FinsListed}
-use Rattle.meaning_mend_laws.specs.Steps.{child-of, mended-is}
+use Rattle.meaning_mend_laws.specs.Steps.{mended-is}
 
 -- ---- a mending that is not refused
 

@@ -14,10 +14,9 @@ use Rattle.meaning.specs.Edits.{appended}
 use Rattle.meaning_list_laws.specs.Tests.{and-both}
 use Rattle.meaning_list_laws.specs.Lists.{member-front-none}
 use Rattle.meaning_mends.specs.Mends.{Child, named, meetings, childTable, sameChild, Change, renamed, enlisted, made, madeAll, changeIf, parentChange, finChange, changes, fits, mended, mendRefusal}
-use Rattle.meaning_mends.specs.Laws.{Want, parent, listing, wantsFor, wantsAll, Has, Each, named-made, asked-by-one}
+use Rattle.meaning_mends.specs.Laws.{child-of, Want, parent, listing, wantsFor, wantsAll, Has, Each, named-made, asked-by-one}
 use Rattle.meaning_mend_laws.specs.Terms.{All, Real, sameField, Apart}
 use Rattle.meaning_mend_laws.specs.Terms as terms
-use Rattle.meaning_mend_laws.specs.Steps.{child-of}
 use Rattle.meaning_mend_laws.specs.Kept.{all-there, accepted-fits}
 
 pub all-both : {A : Type 0} (P Q R : A → Type 0) (l : List A) → ((c : A) → P c → Q c → R c) → All P l → All Q l → All R l

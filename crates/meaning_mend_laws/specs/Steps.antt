@@ -12,22 +12,8 @@ use Rattle.meaning.specs.Edits.{appended}
 use Rattle.meaning_list_laws.specs.Tests.{and-both}
 use Rattle.meaning_list_laws.specs.Lists.{joined-append, meets-append, meet-old, meet-new}
 use Rattle.meaning_mends.specs.Mends.{Child, aRegion, aShell, aLoop, aFin, named, Meeting, met, meetings, childTable, sameChild, Change, renamed, enlisted, made, madeAll, changeIf, parentChange, finChange, listChange, changesAt, changesFor, mended}
-use Rattle.meaning_mends.specs.Laws.{made-append}
+use Rattle.meaning_mends.specs.Laws.{child-of, made-append}
 use Rattle.meaning_mend_laws.specs.Terms.{linked, listing, idsOf, parentBy, newParent, naming, newListing}
-
--- ---- two classes that are the same
-
-pub child-of : (k c : Child) → sameChild k c ≡ true → k ≡ c
-child-of k c e = sym (back k) ∙ ap at (eqb-true (childTable k) (childTable c) e) ∙ back c
-  where
-    at : ℕ → Child
-    at n = cond (eqb n 1) aRegion (cond (eqb n 2) aShell (cond (eqb n 4) aLoop aFin))
-
-    back : (k : Child) → at (childTable k) ≡ k
-    back aRegion = refl
-    back aShell = refl
-    back aLoop = refl
-    back aFin = refl
 
 -- ---- the model with its own pointers, and with others twice
 

@@ -309,23 +309,24 @@ one-lister g i (suc n) p q h a b s t = by (λ c d e. one-lister g i n p q c d e 
     by before false true e f = absurd (omega (arith, counted-next g i n, here q f t, lister g i n p (less p a e) s))
     by before false false e f = before (omega (arith, counted-next g i n)) (less p a e) (less q b f)
 
+-- two classes that are the same
+pub child-of : (k c : Child) → sameChild k c ≡ true → k ≡ c
+child-of k c e = sym (back k) ∙ ap at (eqb-true (childTable k) (childTable c) e) ∙ back c
+  where
+    at : ℕ → Child
+    at n = cond (eqb n 1) aRegion (cond (eqb n 2) aShell (cond (eqb n 4) aLoop aFin))
+
+    back : (k : Child) → at (childTable k) ≡ k
+    back aRegion = refl
+    back aShell = refl
+    back aLoop = refl
+    back aFin = refl
+
 module _ (m : Model) where
   -- where each is listed once, any two wants agree
   abbrev pub Sure : Want → Type 0
   Sure (parent t) = Listed m t × (once m t ≡ true)
   Sure (listing i) = Unit {0}
-
-  pub child-of : (k c : Child) → sameChild k c ≡ true → k ≡ c
-  child-of k c e = sym (back k) ∙ ap at (eqb-true (childTable k) (childTable c) e) ∙ back c
-    where
-      at : ℕ → Child
-      at n = cond (eqb n 1) aRegion (cond (eqb n 2) aShell (cond (eqb n 4) aLoop aFin))
-
-      back : (k : Child) → at (childTable k) ≡ k
-      back aRegion = refl
-      back aShell = refl
-      back aLoop = refl
-      back aFin = refl
 
   pub sure-agree : (w v : Want) → Sure w → Sure v → Agree w v
   unfolding listings

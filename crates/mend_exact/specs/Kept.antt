@@ -76,7 +76,7 @@ named-after n c p i k j = by (eqb (named n c i) p) refl
     here : eqb (named n c i) p ≡ true → (b : Bool) → (sameChild k c && eqb j i) ≡ b → named n k j ≡ cond b p (named n k j)
     here e true f =
         let both = and-both (sameChild k c) (eqb j i) f in
-        ap (λ x. named n x j) (child-of n k c (both .0)) ∙ ap (named n c) (eqb-true j i (both .1)) ∙ eqb-true (named n c i) p e
+        ap (λ x. named n x j) (child-of k c (both .0)) ∙ ap (named n c) (eqb-true j i (both .1)) ∙ eqb-true (named n c i) p e
     here e false f = refl
 
     by : (b : Bool) → eqb (named n c i) p ≡ b → named (madeAll n (changeIf (not b) (renamed c i (named n c i) p))) k j ≡ cond (sameChild k c && eqb j i) p (named n k j)
