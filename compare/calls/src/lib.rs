@@ -10,6 +10,7 @@ pub mod layout;
 pub mod measures;
 pub mod mend_wrong;
 pub mod mends;
+pub mod moves;
 pub mod noise;
 pub mod office_wrong;
 pub mod offices;

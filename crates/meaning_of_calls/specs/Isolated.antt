@@ -1,7 +1,7 @@
 -- What an office is told by calls on two lent memories that are one and the same to it (W-206): "provided that .. both sets of tables are readable", whatever else stands in them, and with marks that are long enough
 -- in both or in neither. The answers are compared whole: values, lists, refusals and their numbers. Assumes nothing.
-use Prim.Native.Nat.{ℕ, zero, suc, _/_}
-use mathlib.Core.Path.{_≡_, refl, sym, ap, _∙_}
+use Prim.Native.Nat.{ℕ, _/_}
+use mathlib.Core.Path.{_≡_, sym, ap, _∙_}
 use mathlib.Core.Bool.{Bool, true, _&&_}
 use mathlib.Core.List.{List, []}
 use lib.ListN.{length}
@@ -10,25 +10,21 @@ use Rattle.geom_lines_planes.specs.Refuse.{_unless_, _then_}
 use Rattle.meaning.specs.Refuse.{Answer}
 use Rattle.meaning.specs.Faults.{CheckOptions, kept}
 use Rattle.meaning.specs.Offices.{officeRefusal, bodyFor}
-use Rattle.meaning_sheets.specs.Sheets.{Stone, withStone, stoneOf}
-use Rattle.meaning_isolation.specs.Told.{bodyStone, SameAnswers}
+use Rattle.meaning_isolation.specs.Told.{SameAnswers}
 use Rattle.meaning_isolation.specs.Offices.{OfficeAlike, OthersDiffer}
-use Rattle.meaning_isolation.specs.Weighed.{told-number, told-stone}
 use Rattle.meaning_isolation.specs.Statements.{office-answers, others-make-no-difference}
 use Rattle.memory_layout.specs.Names.{FACES, EDGES, VERTICES}
 use Rattle.memory_layout.specs.Decode.{decode}
 use Rattle.memory_layout.specs.Readable.{readable}
-use Rattle.memory_writes.specs.Put.{unlessRefused}
 use Rattle.walk_answers.specs.Calls.{reach, inFront}
 use Rattle.check_reasons.specs.Log.{faultsWords}
 use Rattle.office_walks.specs.Calls.{officeFacesNumber, officeFacesHanded, officeEdgesNumber, officeEdgesHanded, officeVerticesNumber, officeVerticesHanded}
 use Rattle.office_measures.specs.Answers.{officeBox, officeVolume, officeReport, officeFaults, officeFirst, officeFit}
 use Rattle.sheet_words.specs.declared.StoneSheet.{StoneSheet}
-use Rattle.sheet_words.specs.Words.{sheetOf, wordsOfSheet}
 use Rattle.office_sheets.specs.Answers.{takeNumber, takenSheet}
 use Rattle.meaning_of_calls.specs.Shown.{_else_, shown, onList, WalkIs}
 use Rattle.meaning_of_calls.specs.Offices.{faces-told, edges-told, vertices-told, box-told, volume-told, check-told, faults-told, first-told, fit-told}
-use Rattle.meaning_of_calls.specs.Sheets.{take-told, stone-given}
+use Rattle.meaning_of_calls.specs.Sheets.{take-same, sheet-same}
 
 -- the marks that a call is lent on either memory
 pub record Marks : Type 0 where
@@ -71,28 +67,6 @@ module _ (room w : List ℕ) (x : List Float) (room′ w′ : List ℕ) (x′ : 
   three : (reach room FACES (a .faces) && reach room EDGES (a .edges) && reach room VERTICES (a .vertices)) ≡ (reach room′ FACES (a′ .faces) && reach room′ EDGES (a′ .edges) && reach room′ VERTICES (a′ .vertices))
   three = rw (reaching .faces, reaching .edges, reaching .vertices)
 
-  -- a body taken in on a stone sheet (W-201): the number, and all five words
-  module _ (s : StoneSheet) (e : bodyStone (decode room w x) (bodyFor (decode room w x) o b) ≡ bodyStone (decode room′ w′ x′) (bodyFor (decode room′ w′ x′) o b)) where
-    take-same : takeNumber room w x o b (a .faces) s ≡ takeNumber room′ w′ x′ o b (a′ .faces) s
-    take-same = take-told room w x o b (a .faces) s ∙ (rw (r, r′, reaching .faces, told-number (decode room w x) (decode room′ w′ x′) (bodyFor (decode room w x) o b) (bodyFor (decode room′ w′ x′) o b) e)) ∙ sym (take-told room′ w′ x′ o b (a′ .faces) s)
-
-    sheet-same : takenSheet room w x o b (a .faces) s ≡ takenSheet room′ w′ x′ o b (a′ .faces) s
-    unfolding takenSheet
-    sheet-same = by (takeNumber room w x o b (a .faces) s) refl ∙ ap (λ n. unlessRefused n (new too) s) take-same
-      where
-        new : Stone → StoneSheet
-        new t = wordsOfSheet (withStone (sheetOf s) t)
-
-        it : Stone
-        it = stoneOf (decode room w x) (bodyFor (decode room w x) o b)
-
-        too : Stone
-        too = stoneOf (decode room′ w′ x′) (bodyFor (decode room′ w′ x′) o b)
-
-        by : (n : ℕ) → takeNumber room w x o b (a .faces) s ≡ n → unlessRefused n (new it) s ≡ unlessRefused n (new too) s
-        by zero z = ap new (told-stone (decode room w x) (decode room′ w′ x′) (bodyFor (decode room w x) o b) (bodyFor (decode room′ w′ x′) o b) e (stone-given room w x o b (a .faces) s z))
-        by (suc n) z = refl
-
   told-same : SameAnswers (decode room w x) (decode room′ w′ x′) (bodyFor (decode room w x) o b) (bodyFor (decode room′ w′ x′) o b) → SameTold room w x room′ w′ x′ o b a a′
   told-same s =
       record {
@@ -101,7 +75,7 @@ module _ (room w : List ℕ) (x : List Float) (room′ w′ : List ℕ) (x′ : 
         vertices = λ out. walk-same _ _ _ _ _ _ (ap (onList (length out)) (front _ _ _ _ three (s .vertices))) (vertices-told room w x o b (a .faces) (a .edges) (a .vertices) out) (vertices-told room′ w′ x′ o b (a′ .faces) (a′ .edges) (a′ .vertices) out);
         box = box-told room w x o b (a .faces) (a .edges) (a .vertices) ∙ ap (shown _ _) (front _ _ _ _ three (s .box)) ∙ sym (box-told room′ w′ x′ o b (a′ .faces) (a′ .edges) (a′ .vertices));
         volume = volume-told room w x o b (a .faces) ∙ ap (shown _ _) (front _ _ _ _ (reaching .faces) (s .volume)) ∙ sym (volume-told room′ w′ x′ o b (a′ .faces));
-        taken = λ k. (take-same k (s .stone), sheet-same k (s .stone));
+        taken = λ k. (take-same room w x room′ w′ x′ o b (a .faces) (a′ .faces) r r′ (reaching .faces) (s .stone) k, sheet-same room w x room′ w′ x′ o b (a .faces) (a′ .faces) r r′ (reaching .faces) (s .stone) k);
         report = λ c nums. check-told room w x o b (a .faces) (a .edges) c nums ∙ ap (shown _ _) (front _ _ _ _ two (s .report c)) ∙ sym (check-told room′ w′ x′ o b (a′ .faces) (a′ .edges) c nums);
         faults = λ c nums. faults-told room w x o b (a .faces) (a .edges) c nums ∙ ap (λ d. inFront (shown (λ q. faultsWords (kept (length nums / 4) q)) (λ _. []) d) nums) (front _ _ _ _ two (s .report c)) ∙ sym (faults-told room′ w′ x′ o b (a′ .faces) (a′ .edges) c nums);
         first = λ c. first-told room w x o b (a .faces) (a .edges) c ∙ ap (shown _ _) (front _ _ _ _ two (s .report c)) ∙ sym (first-told room′ w′ x′ o b (a′ .faces) (a′ .edges) c);

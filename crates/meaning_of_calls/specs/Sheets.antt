@@ -13,6 +13,8 @@ use Rattle.meaning.specs.Offices.{officeRefusal, bodyFor}
 use Rattle.meaning_sheets.specs.Sheets.{Stone, Sheet, sixVolume, stoneRefusal, withStone, sheetReadable, takeRefusal, stoneOf, whereTaken, sheetAfter}
 use Rattle.meaning_list_laws.specs.Tests.{then-zero, then-assoc, unless-zero}
 use Rattle.meaning_sheet_laws.specs.Sizes.{stone-taken}
+use Rattle.meaning_isolation.specs.Told.{bodyStone}
+use Rattle.meaning_isolation.specs.Weighed.{told-number, told-stone}
 use Rattle.memory_layout.specs.Names.{FACES}
 use Rattle.memory_layout.specs.Decode.{decode}
 use Rattle.memory_layout.specs.Readable.{readable}
@@ -122,3 +124,30 @@ module _ (room w : List ℕ) (x : List Float) (o b : ℕ) (faceMarks : List ℕ)
         by : (n : ℕ) → takeNumber room w x o b faceMarks s ≡ n → sheetReadable (whereTaken n (sheetOf s) (withStone (sheetOf s) t)) ≡ true
         by zero z = stays-readable (sheetOf s) t e (room-left z) (size z)
         by (suc n) z = e
+
+-- ---- two readable memories in which the body that is asked for is the same stone, or is refused the same, with marks that are long enough in both or in neither
+
+module _ (room w : List ℕ) (x : List Float) (room′ w′ : List ℕ) (x′ : List Float) (o b : ℕ) (faceMarks faceMarks′ : List ℕ)
+    (r : readable room w x ≡ true) (r′ : readable room′ w′ x′ ≡ true) (k : reach room FACES faceMarks ≡ reach room′ FACES faceMarks′)
+    (e : bodyStone (decode room w x) (bodyFor (decode room w x) o b) ≡ bodyStone (decode room′ w′ x′) (bodyFor (decode room′ w′ x′) o b)) (s : StoneSheet) where
+  -- the number
+  pub take-same : takeNumber room w x o b faceMarks s ≡ takeNumber room′ w′ x′ o b faceMarks′ s
+  take-same = take-told room w x o b faceMarks s ∙ (rw (r, r′, k, told-number (decode room w x) (decode room′ w′ x′) (bodyFor (decode room w x) o b) (bodyFor (decode room′ w′ x′) o b) e)) ∙ sym (take-told room′ w′ x′ o b faceMarks′ s)
+
+  -- and all five words
+  pub sheet-same : takenSheet room w x o b faceMarks s ≡ takenSheet room′ w′ x′ o b faceMarks′ s
+  unfolding takenSheet
+  sheet-same = by (takeNumber room w x o b faceMarks s) refl ∙ ap (λ n. unlessRefused n (new too) s) take-same
+    where
+      new : Stone → StoneSheet
+      new t = wordsOfSheet (withStone (sheetOf s) t)
+
+      it : Stone
+      it = stoneOf (decode room w x) (bodyFor (decode room w x) o b)
+
+      too : Stone
+      too = stoneOf (decode room′ w′ x′) (bodyFor (decode room′ w′ x′) o b)
+
+      by : (n : ℕ) → takeNumber room w x o b faceMarks s ≡ n → unlessRefused n (new it) s ≡ unlessRefused n (new too) s
+      by zero z = ap new (told-stone (decode room w x) (decode room′ w′ x′) (bodyFor (decode room w x) o b) (bodyFor (decode room′ w′ x′) o b) e (stone-given room w x o b faceMarks s z))
+      by (suc n) z = refl

@@ -6,5 +6,6 @@ pub mod Fins
 pub mod Exchange
 pub mod Sides
 pub mod Grid
+pub mod Splits
 pub mod Statements
 pub mod Evaluated

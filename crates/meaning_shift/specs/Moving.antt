@@ -28,6 +28,27 @@ abbrev pub outside : Model → Option ℕ → Bool
 outside m none = false
 outside m (some s) = not (region m (shell m s .region) .solid)
 
+-- "every face with one loop of three fins or more"
+abbrev pub oneLoopEach : Model → ℕ → Bool
+oneLoopEach m b = all (λ f. eqb (length (face m f .loops)) 1 && leb 3 (length (rim m f))) (faceWalk m b)
+
+-- "its back a shell of that region"
+abbrev pub backsWithin : Model → ℕ → ℕ → Bool
+backsWithin m b r = all (λ f. oneOf (face m f .back) (region m r .shells)) (faceWalk m b)
+
+-- "and its front a shell of a region that isn't solid"
+abbrev pub frontsOutside : Model → ℕ → Bool
+frontsOutside m b = all (λ f. outside m (face m f .front)) (faceWalk m b)
+
+-- "both fins of every edge of the body in loops of the body's own faces": each fin's loop names one of them, which then lists it
+abbrev pub finsOwn : Model → ℕ → Bool
+finsOwn m b = all (λ e. all (λ i. member (loop m (fin m i .owner) .face) (faceWalk m b)) (edge m e .fins)) (edgeWalk m b)
+
+-- "and no end missing"
+abbrev pub endsThere : Model → ℕ → Bool
+endsThere m b = all (λ e. isSome (edge m e .start) && isSome (edge m e .end)) (edgeWalk m b)
+
+-- the whole sentence
 pub record Movable (x : Limits) (m : Model) (b r : ℕ) : Type 0 where
   -- "a well-formed model"
   pub formed : WellFormed x m
@@ -40,16 +61,12 @@ pub record Movable (x : Limits) (m : Model) (b r : ℕ) : Type 0 where
   pub one : countIf (λ q. region m q .solid) (body m b .regions) ≡ 1
   pub own : member r (body m b .regions) ≡ true
   pub filled : region m r .solid ≡ true
-  -- "every face with one loop of three fins or more"
-  pub loops : all (λ f. eqb (length (face m f .loops)) 1 && leb 3 (length (rim m f))) (faceWalk m b) ≡ true
-  -- "its back a shell of that region"
-  pub backs : all (λ f. oneOf (face m f .back) (region m r .shells)) (faceWalk m b) ≡ true
-  -- "and its front a shell of a region that isn't solid"
-  pub fronts : all (λ f. outside m (face m f .front)) (faceWalk m b) ≡ true
-  -- "both fins of every edge of the body in loops of the body's own faces": each fin's loop names one of them, which then lists it
-  pub fins : all (λ e. all (λ i. member (loop m (fin m i .owner) .face) (faceWalk m b)) (edge m e .fins)) (edgeWalk m b) ≡ true
-  -- "and no end missing"
-  pub ends : all (λ e. isSome (edge m e .start) && isSome (edge m e .end)) (edgeWalk m b) ≡ true
+  -- "every face with one loop .., its back .. and its front .., both fins of every edge .., and no end missing"
+  pub loops : oneLoopEach m b ≡ true
+  pub backs : backsWithin m b r ≡ true
+  pub fronts : frontsOutside m b ≡ true
+  pub fins : finsOwn m b ≡ true
+  pub ends : endsThere m b ≡ true
 
 -- ---- "Shift every vertex of the body by the same grid vector, staying in range"
 

@@ -18,7 +18,7 @@ agree : {A : Type 0} (l : List ℕ) (t u : Table A) → SameTable t u → Agree 
 agree l t u s = record { there = λ i h. ap (ltb i) (s .used); same = λ i h g. s .slots i (ltb-true i (t .used) g) }
 
 module _ (m n : Model) (s : SameModel m n) (b : ℕ) where
-  alike : Alike m n b
+  pub alike : Alike m n b
   alike =
       record {
         version = s .version;
