@@ -61,6 +61,34 @@ static void stones(void)
     office = 0;
 }
 
+/* Binary STL of the stone, which its own tables have no room for, read into other memory with room for that and no more. */
+static void read_back(uint8_t *file, size_t length)
+{
+    static const size_t other[10] = {1, 2, 2, 12, 12, 36, 18, 8, 0, 0};
+    static uint8_t of_faces[12], of_edges[18];
+    uint32_t id[1], list[64], *w = calloc(BRUNSKERL_WORDS(other), sizeof *w);
+    double *x = calloc(BRUNSKERL_REALS(other), sizeof *x);
+    size_t counts[3];
+    if (w == NULL || x == NULL)
+        exit(2);
+    told("the STL read where the stone stands", brunskerl_read_stl(ASKED, file, length, &id));
+    told("the STL read without its last byte", brunskerl_read_stl(ASKED, file, length - 1, &id));
+    told("the STL read as office 2", brunskerl_read_stl(LENT, 2, file, length, &id));
+#define OTHER &other, w, BRUNSKERL_WORDS(other), x, BRUNSKERL_REALS(other)
+    done(brunskerl_make(OTHER, 0.001, 1), "make");
+    done(brunskerl_read_stl(OTHER, 1, file, length, &id), "the STL read");
+    printf("the STL read: body %u, %u faces, %u edges, %u vertices\n", (unsigned)id[0], (unsigned)w[3], (unsigned)w[6], (unsigned)w[7]);
+    done(brunskerl_check_body(OTHER, 1, id[0], 0, 0, of_faces, sizeof of_faces, of_edges, sizeof of_edges, list, 64, &counts), "check");
+    printf("  %zu faults, the first is reason %u of face %u\n", counts[0], (unsigned)list[3], (unsigned)list[2]);
+    told("  the STL read once more", brunskerl_read_stl(OTHER, 1, file, length, &id));
+    file[99] = 0x7f;
+    file[98] = 0x80;
+    told("  the STL read with an infinite coordinate", brunskerl_read_stl(OTHER, 1, file, length, &id));
+#undef OTHER
+    free(w);
+    free(x);
+}
+
 /* The stone as binary STL: too few bytes, enough, and a corner that binary32 does not hold. */
 static void drawn(void)
 {
@@ -76,6 +104,7 @@ static void drawn(void)
     office = 1;
     told("the STL, as office 1", brunskerl_write_stl(ASKED, 0, FACES, file, sizeof file, &written));
     office = 0;
+    read_back(file, written[0]);
 }
 
 static void report(void)

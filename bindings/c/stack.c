@@ -74,6 +74,13 @@ CALL(body_volume, office, 0, FACES, REALS(1))
 CALL(sheet_take, office, 0, FACES, &sheet)
 CALL(stl_length, office, 0, FACES, &length)
 CALL(write_stl, office, 0, FACES, file, sizeof file, &length)
+/* One triangle, read into empty tables, which have room for it. */
+static void read_stl(void)
+{
+    static const uint8_t triangle[134] = {[80] = 1, [110] = 0x80, [111] = 0x3f, [126] = 0x80, [127] = 0x3f};
+    brunskerl_make(LENT, 0.001, 2);
+    code = brunskerl_read_stl(LENT, office, triangle, sizeof triangle, SLOTS(1));
+}
 CALL(edge_parameter_bounds, 0, REALS(2))
 /* By the other office, which walks the body and is refused, and by its own. */
 static void split_line_edge(void)
@@ -114,7 +121,7 @@ static const struct {
     ROW(insert_vertex), ROW(insert_curve), ROW(insert_surface), ROW(set_body), ROW(set_region), ROW(set_shell), ROW(set_face),
     ROW(set_loop), ROW(set_fin), ROW(set_edge), ROW(set_vertex), ROW(set_curve), ROW(set_surface), ROW(set_fin_geometry), ROW(contains),
     ROW(list_entry), ROW(put_entry), ROW(append_entry), ROW(strike_entry), ROW(body_faces), ROW(body_edges), ROW(body_vertices),
-    ROW(fin_vertices), ROW(body_bounding_box), ROW(body_volume), ROW(sheet_take), ROW(stl_length), ROW(write_stl), ROW(edge_parameter_bounds), ROW(split_line_edge), ROW(check_body),
+    ROW(fin_vertices), ROW(body_bounding_box), ROW(body_volume), ROW(sheet_take), ROW(stl_length), ROW(write_stl), ROW(read_stl), ROW(edge_parameter_bounds), ROW(split_line_edge), ROW(check_body),
     ROW(first_fault), ROW(fit_to_saw), ROW(mend_changes), ROW(mend), ROW(image_length), ROW(write_image), ROW(read_image), ROW(make),
 };
 

@@ -161,6 +161,15 @@ uint32_t brunskerl_sheet_take(BRUNSKERL_MEMORY, uint32_t office, size_t body, ui
 uint32_t brunskerl_stl_length(BRUNSKERL_MEMORY, uint32_t office, size_t body, uint8_t *faces, size_t f, size_t (*length)[1]);
 uint32_t brunskerl_write_stl(BRUNSKERL_MEMORY, uint32_t office, size_t body, uint8_t *faces, size_t f, uint8_t *bytes, size_t b, size_t (*length)[1]);
 
+/* A new solid body of the office's from binary STL, whatever its header, normals and attributes hold; its id is put in the slot. A void and a solid region, in that order,
+ * with a shell each; a face for each triangle, the void's shell in front and the solid's at the back; a loop from the first corner. Equal coordinates are one vertex, both
+ * zeros equal, the first met stored; nothing near is joined, and no vertex of before is used. One edge for each pair of vertices, from the lower id to the higher. Records
+ * stand in the order met, and have the session's tolerance; there are no surfaces and no curves: set them before box and volume, and before a check is empty. What an edge
+ * that is used once or thrice is, the check tells (reason 19).
+ * Refusals: 9, also where b is not 84 and 50 for each triangle that is counted, 1 for the office, 5 for a coordinate that is not finite, 1 for a triangle with two equal
+ * corners, 8 where a table or a list has no room, an edge's ninth fin included. A refusal leaves all memory and the slot. */
+uint32_t brunskerl_read_stl(BRUNSKERL_MEMORY_OUT, uint32_t office, const uint8_t *bytes, size_t b, uint32_t (*id)[1]);
+
 /* The parameters of an edge's ends on its line, and the split at a fraction between them: that edge, the new edge, the new
  * vertex. The line's direction must have the length 1, or the new vertex can lie beyond the edge's end.
  * The parameters: 9, then tests 2 and 4 to 8 of these, whosever edge it is. The split: 9, 1 for the office, then

@@ -80,5 +80,6 @@ calls! {
     brunskerl_split_line_edge(office: u32, edge: usize, fraction: f64, ids: *mut [u32; 3]) -> u32;
     brunskerl_strike_entry(office: u32, list: usize, id: usize, place: usize) -> u32;
     brunskerl_mend(office: u32, body: usize, marks: *mut u8, k: usize, list: *mut u32, l: usize, count: *mut [usize; 1]) -> u32;
+    brunskerl_read_stl(office: u32, bytes: *const u8, b: usize, id: *mut [u32; 1]) -> u32;
     brunskerl_read_image(bytes: *const u8, b: usize) -> u32;
 }

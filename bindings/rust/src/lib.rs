@@ -573,6 +573,16 @@ impl Model {
         Ok(bytes)
     }
 
+    /// A new solid body from binary STL, whatever its header, normals and attributes hold: a face for each triangle, equal coordinates one vertex, one edge for each pair
+    /// of vertices; nothing near is joined, and no vertex of before is used. It has no surfaces and no curves: set them before its box or volume is asked for, or
+    /// before a report of it is empty.
+    ///
+    /// [`Refusal::Unreadable`] where the length is not 84 bytes and 50 for each triangle that is counted; [`Refusal::OffGrid`] for a coordinate that is not finite;
+    /// [`Refusal::BadArgument`] for a triangle with two equal corners, where both zeros are equal; [`Refusal::NoRoom`], also for an edge's ninth fin.
+    pub fn read_stl(&mut self, file: &[u8]) -> Result<u32, Refusal> {
+        insert!(self, brunskerl_read_stl(self.office as u32, file.as_ptr(), file.len()))
+    }
+
     /// The parameters of the edge's start and end on its line.
     ///
     /// [`Refusal::NotFound`] for a missing record, [`Refusal::BadArgument`] for no curve, [`Refusal::Unresolved`] for an end that is none, a curve that is

@@ -107,6 +107,17 @@ unsafe extern "C" {
         b: usize,
         value: *mut [usize; 1],
     ) -> u32;
+    fn brunskerl_read_stl(
+        room: Room,
+        words: *mut u32,
+        n: usize,
+        reals: *mut f64,
+        m: usize,
+        office: u32,
+        bytes: *const u8,
+        b: usize,
+        id: *mut [u32; 1],
+    ) -> u32;
     fn brunskerl_fit_to_saw(
         room: Room,
         words: *const u32,
@@ -540,6 +551,24 @@ impl Lent {
                 bytes.as_mut_ptr(),
                 bytes.len(),
                 value,
+            )
+        }
+    }
+
+    /// The number alone; the new body's id is put into its slot (W-210).
+    pub fn read_stl(&mut self, bytes: &[u8], id: &mut [u32; 1]) -> u32 {
+        // SAFETY: the call reads the bytes, writes to the lent memory and the slot, and keeps no address.
+        unsafe {
+            brunskerl_read_stl(
+                &self.room,
+                self.words.as_mut_ptr(),
+                self.words.len(),
+                self.reals.as_mut_ptr(),
+                self.reals.len(),
+                self.office,
+                bytes.as_ptr(),
+                bytes.len(),
+                id,
             )
         }
     }

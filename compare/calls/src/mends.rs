@@ -530,7 +530,7 @@ impl Mend {
 }
 
 /// The first place where two slices differ, of as many as both have, and what stands there; or their lengths.
-fn first<T: PartialEq + std::fmt::Debug>(
+pub(crate) fn first<T: PartialEq + std::fmt::Debug>(
     right: &[T],
     given: &[T],
     what: impl Fn(usize) -> String,
@@ -549,7 +549,7 @@ fn first<T: PartialEq + std::fmt::Debug>(
 }
 
 /// The record that a word of the tables is of, and its place there.
-fn place(lent: &Lent, at: usize) -> String {
+pub(crate) fn place(lent: &Lent, at: usize) -> String {
     let records = (0..10).flat_map(|k| (0..lent.room[k]).map(move |i| (k, i)));
     let before = records.take_while(|&(k, i)| lent.word_at(k, i) <= at);
     match before.last() {

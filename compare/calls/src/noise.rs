@@ -114,7 +114,12 @@ fn counts(random: &mut Random) -> [usize; 10] {
 /// Garbage made readable: every tag, length and tolerance is one, all else is anything.
 pub fn wild(random: &mut Random) -> Lent {
     let used = counts(random);
-    let mut lent = garbage(room(used, random), random);
+    wild_of(used, room(used, random), random)
+}
+
+/// The same with so many records, in memory of these capacities.
+pub fn wild_of(used: [usize; 10], room: [usize; 10], random: &mut Random) -> Lent {
+    let mut lent = garbage(room, random);
     lent.words[VERSION] = random.pick(&[1, 2]);
     lent.reals[0] = random.pick(&[0.001, 1.0, 5.0e-324, f64::MAX, f64::MIN_POSITIVE]);
     for (k, n) in used.into_iter().enumerate() {
@@ -292,8 +297,13 @@ pub fn around(plain: &Plain, random: &mut Random) -> Lent {
     if !tight.readable() {
         return tight;
     }
-    let mut lent = garbage(room(plain.used(), random), random);
-    Kept::of(&tight).over(&mut lent);
+    within(&tight, room(plain.used(), random), random)
+}
+
+/// The model of readable memory in memory of these capacities, with garbage as above.
+pub fn within(tight: &Lent, room: [usize; 10], random: &mut Random) -> Lent {
+    let mut lent = garbage(room, random);
+    Kept::of(tight).over(&mut lent);
     unsaid(&mut lent, random);
     lent
 }

@@ -9,3 +9,4 @@ pub mod Sound
 pub mod Room
 pub mod Back
 pub mod Statements
+pub mod Flat

@@ -80,7 +80,7 @@ steps-around points (t ∷ l) (suc j) h = rw (three 0, three 1, three 2) (steps-
 -- ---- every number names one
 
 -- the corners of finite coordinates are all found
-finite-themselves : (l : List Point3) → allFinite l ≡ true → holds (λ p. samePoint p p) l ≡ true
+pub finite-themselves : (l : List Point3) → allFinite l ≡ true → holds (λ p. samePoint p p) l ≡ true
 unfolding allFinite holds
 finite-themselves [] h = refl
 finite-themselves (p ∷ l) h = let both = and-both (finitePoint p) (allFinite l) h in rw (point-itself p (both .0)) (finite-themselves l (both .1))
@@ -126,7 +126,7 @@ unfolding holds
 edges-below n [] h = refl
 edges-below n (s ∷ l) h = let both = and-both (endsBelow n s) (holds (endsBelow n) l) h in rw (edge-below n s (both .0)) (edges-below n l (both .1))
 
-all-themselves : (l : List Step) → holds (λ s. sameStep s s) l ≡ true
+pub all-themselves : (l : List Step) → holds (λ s. sameStep s s) l ≡ true
 unfolding holds
 all-themselves [] = refl
 all-themselves (s ∷ l) = rw (step-itself s) (all-themselves l)

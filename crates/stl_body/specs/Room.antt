@@ -17,7 +17,7 @@ use Rattle.stl_body.specs.Read.{Mesh, roomTests, hasRoom, newBody, newRe
 use Rattle.stl_body.specs.Laws.{fins-length}
 
 -- what holds of the records of before and of the new ones holds of all
-old-and-new : {A : Type 0} (P : A → Type 0) (t : Table A) (n : ℕ) (new : ℕ → A) → ((i : ℕ) → i < t .used → P (t .slot i)) → ((k : ℕ) → k < n → P (new k))
+pub old-and-new : {A : Type 0} (P : A → Type 0) (t : Table A) (n : ℕ) (new : ℕ → A) → ((i : ℕ) → i < t .used → P (t .slot i)) → ((k : ℕ) → k < n → P (new k))
     → (i : ℕ) → i < t .used + n → P (extended t n new .slot i)
 old-and-new P t n new old fresh i h = by (ltb i (t .used)) refl
   where

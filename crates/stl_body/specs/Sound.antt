@@ -78,7 +78,7 @@ module _ (m : Model) (o : Office) (t : Mesh) (r : Ranged t) where
   unfolding built extended
   has-fin k h = lt-ltb (m .fins .used + k) (m .fins .used + 3 * t .triangles) (omega arith)
 
-  has-edge : (e : ℕ) → e < length (t .edges) → has (behind .edges) (m .edges .used + e) ≡ true
+  pub has-edge : (e : ℕ) → e < length (t .edges) → has (behind .edges) (m .edges .used + e) ≡ true
   unfolding built extended
   has-edge e h = lt-ltb (m .edges .used + e) (m .edges .used + length (t .edges)) (omega arith)
 
@@ -107,7 +107,7 @@ module _ (m : Model) (o : Office) (t : Mesh) (r : Ranged t) where
       (has-vertex (s .from) (ends .0)) (has-vertex (s .to) (ends .1))
 
   -- a fin ends where the next starts
-  meets-there : (k i : ℕ) → k < 3 * t .triangles → i < 3 * t .triangles → getD (t .steps) k (step 0 0) .to ≡ getD (t .steps) i (step 0 0) .from → meetsNext behind (finId k) (finId i) ≡ true
+  pub meets-there : (k i : ℕ) → k < 3 * t .triangles → i < 3 * t .triangles → getD (t .steps) k (step 0 0) .to ≡ getD (t .steps) i (step 0 0) .from → meetsNext behind (finId k) (finId i) ≡ true
   meets-there k i a b h = rw (fin-ends m o t r k a, fin-ends m o t r i b) (eq-eqb _ _ (ap (λ v. m .vertices .used + v) h))
 
   new-loop-quiet : (j : ℕ) → j < t .triangles → loopFindings behind topology (m .faces .used + j) (m .loops .used + j) ≡ []

@@ -9,11 +9,14 @@ use calls::mends::{self, MARKS, Mend, apply};
 use calls::offices::Station;
 use calls::sheets::Stone;
 use calls::stl::{self, file};
+use calls::stl_files::{self, Around, sphere};
+use calls::stl_read::{self, Ask};
 use calls::walks::Walk;
 use gensolid_check::{CheckOptions, check_body};
 use gensolid_topo::{Model, body_bounding_box, body_volume, split_line_edge};
 use models::original::{self, Names};
 use models::plain::Plain;
+use models::random::Random;
 
 /// The least time of one call, of several runs of so many calls that each takes long enough.
 fn time(mut call: impl FnMut()) -> Duration {
@@ -122,6 +125,40 @@ fn drawing(model: &Model, names: &Names, lent: &Lent) {
         rate(rust),
         rate(ours)
     );
+}
+
+/// A file read into a body (W-210), beside the reader in Rust that the comparison goes by, which finds corners and edges by hash maps: two spheres, and as many triangles
+/// as there can be that share nothing. Into memory of the largest capacities with no record in it; the counts are put back each time on both sides.
+fn reading() {
+    println!("binary STL read, the largest");
+    let files = [
+        ("512 triangles", sphere(32, 9)),
+        ("500 triangles", sphere(25, 11)),
+        ("512 apart", stl_files::apart(512)),
+    ];
+    for (what, triangles) in files {
+        let bytes = stl_files::file(&triangles, &Around::ZEROS, &mut Random::new(1, 0, 0));
+        let long = bytes.len();
+        let ask = Ask { office: 0, slot: 0, bytes };
+        let empty = Plain { precision: 0.001, ..Plain::default() };
+        let mut lent = Lent::holding(&empty, LARGEST, 0, 0.0);
+        let rust = time(|| {
+            lent.words[..10].fill(0);
+            assert_eq!(stl_read::read(black_box(&mut lent), &ask), Ok(0), "read");
+        });
+        let ours = time(|| {
+            lent.words[..10].fill(0);
+            assert_eq!(black_box(&mut lent).read_stl(&ask.bytes, &mut [1]), 0, "read");
+        });
+        row(&format!("read, {what}"), rust, ours);
+        let rate = |time: Duration| long as f64 / time.as_secs_f64() / 1e6;
+        println!(
+            "  {:24} Rust {:>7.1} MB/s, ours {:>7.1} MB/s, of {long} bytes",
+            format!("read, {what}"),
+            rate(rust),
+            rate(ours)
+        );
+    }
 }
 
 /// The fins in the order in which the report comes to them, each with its region's place in the body.
@@ -325,4 +362,5 @@ fn main() {
             }
         }
     }
+    reading();
 }

@@ -1,0 +1,4 @@
+pub mod Laid
+pub mod Records
+pub mod Room
+pub mod Statements
