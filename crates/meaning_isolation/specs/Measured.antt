@@ -50,7 +50,7 @@ module _ (w : List ℕ) where
   sides-if false l h = refl
 
 -- the start of an edge in a fin's direction is one of its vertices
-start-listed : (s : Sense) (e : Edge) → isSome (directed s e .start) ≡ true → member (the (directed s e .start)) (edgeVertices e) ≡ true
+pub start-listed : (s : Sense) (e : Edge) → isSome (directed s e .start) ≡ true → member (the (directed s e .start)) (edgeVertices e) ≡ true
 start-listed positive e h = in-front (the (e .start)) (listed (e .start)) (listed (e .end)) (the-listed (e .start) h)
 start-listed negative e h = behind (the (e .end)) (listed (e .start)) (listed (e .end)) (the-listed (e .end) h)
 
@@ -131,7 +131,7 @@ module _ (m n : Model) (b : ℕ) (a : Alike m n b) where
     unfolding requirePolyhedral
     faces-walked = then-zero (facesRefusal m b) _ z .0
 
-    edges-walked : edgesRefusal m b ≡ 0
+    pub edges-walked : edgesRefusal m b ≡ 0
     unfolding requirePolyhedral
     edges-walked = then-zero (edgesRefusal m b) _ (then-zero (firstOf (flatFace m) (faceWalk m b)) _ (then-zero (facesRefusal m b) _ z .1) .1) .0
 
@@ -141,7 +141,7 @@ module _ (m n : Model) (b : ℕ) (a : Alike m n b) where
         let q = firstOf-zero (straightEdge m) (edgeWalk m b) e (then-zero (edgesRefusal m b) _ (then-zero (firstOf (flatFace m) (faceWalk m b)) _ (then-zero (facesRefusal m b) _ z .1) .1) .1) g in
         unless-zero 1 (has (m .edges) e) (then-zero (2 unless has (m .edges) e) _ q .0)
 
-    body-there : has (m .bodies) b ≡ true
+    pub body-there : has (m .bodies) b ≡ true
     body-there = Walked.followed m n b a faces-walked .0
 
     sides-of-same : (s : ℕ) → member s (shellsOf m b) ≡ true → sidesOf m s ≡ sidesOf n s
@@ -170,20 +170,20 @@ module _ (m n : Model) (b : ℕ) (a : Alike m n b) where
 
     -- a face that is walked, its only loop and the fins of that
     module _ (f : ℕ) (g : member f (faceWalk m b) ≡ true) (one : eqb (length (face m f .loops)) 1 ≡ true) where
-      abbrev only : ℕ
+      abbrev pub only : ℕ
       only = getD (face m f .loops) 0 0
 
-      only-in : member only (face m f .loops) ≡ true
+      pub only-in : member only (face m f .loops) ≡ true
       only-in = let e = eqb-true (length (face m f .loops)) 1 one in member-nth (face m f .loops) 0 (omega arith)
 
       face-same : face m f ≡ face n f
       face-same = Walked.face-same m n b a edges-walked f g
 
-      rim-same : rim m f ≡ rim n f
+      pub rim-same : rim m f ≡ rim n f
       rim-same = ap (λ (d : Loop). d .fins) (Walked.loop-same m n b a edges-walked f g only only-in) ∙ ap (λ (d : Face). loop n (getD (d .loops) 0 0) .fins) face-same
 
       module _ (i : ℕ) (q : member i (rim m f) ≡ true) where
-        its-edge : (member (fin m i .edge) (edgesMet m b) ≡ true) × (has (m .edges) (fin m i .edge) ≡ true)
+        pub its-edge : (member (fin m i .edge) (edgesMet m b) ≡ true) × (has (m .edges) (fin m i .edge) ≡ true)
         unfolding edgeWalk
         its-edge =
             let t = Walked.fin-there m n b a edges-walked f g only i only-in q in
@@ -193,12 +193,12 @@ module _ (m n : Model) (b : ℕ) (a : Alike m n b) where
             let l : List ℕ = joined (λ s. shell m s .wireEdges) (shellsOf m b) in
             (Walked.edge-in m b i (t .0) (t .1), edge-there (fin m i .edge) (member-firsts (fin m i .edge) (k ++ l) ∙ in-front (fin m i .edge) k l edges))
 
-        ends-same : endsOf m i ≡ endsOf n i
+        pub ends-same : endsOf m i ≡ endsOf n i
         ends-same =
             ap (directed (fin m i .sense)) (a .edges .same (fin m i .edge) (its-edge .0) (its-edge .1))
             ∙ ap (λ (d : Fin). directed (d .sense) (edge n (d .edge))) (Walked.fin-same m n b a edges-walked f g only i only-in q)
 
-        start-met : isSome (startOf m i) ≡ true → member (the (startOf m i)) (verticesMet m b) ≡ true
+        pub start-met : isSome (startOf m i) ≡ true → member (the (startOf m i)) (verticesMet m b) ≡ true
         start-met h =
             Walked.vertex-in m b (fin m i .edge) (its-edge .0) (its-edge .1) (the (startOf m i)) (start-listed (fin m i .sense) (edge m (fin m i .edge)) h)
 

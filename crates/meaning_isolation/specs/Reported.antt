@@ -47,14 +47,14 @@ module _ (m n : Model) (b : ℕ) (a : Alike m n b) where
   -- ---- geometry: of an edge that is there, its curve and a surface
 
   module _ (e : ℕ) (met : member e (edgesMet m b) ≡ true) (there : has (m .edges) e ≡ true) where
-    edge-same : edge m e ≡ edge n e
+    pub edge-same : edge m e ≡ edge n e
     edge-same = a .edges .same e met there
 
     module _ (c s : ℕ) (c-met : member c (curvesMet m b) ≡ true) (s-met : member s (surfacesMet m b) ≡ true) where
-      curve-same : curve m c ≡ curve n c
+      pub curve-same : curve m c ≡ curve n c
       curve-same = carrier-same (m .curves) (n .curves) (curvesMet m b) c (a .curves) c-met
 
-      surface-same : surface m s ≡ surface n s
+      pub surface-same : surface m s ≡ surface n s
       surface-same = carrier-same (m .surfaces) (n .surfaces) (surfacesMet m b) s (a .surfaces) s-met
 
       on-surface : (p : Point3) (t : Float) (k : ℕ) (q : Asked) → pointOnSurface m s p t k q ≡ pointOnSurface n s p t k q
@@ -82,14 +82,14 @@ module _ (m n : Model) (b : ℕ) (a : Alike m n b) where
           ∙ ap (λ (d : Vertex). pointOnSurface n s (d .point) (effective (n .version) (d .tolerance) (n .precision)) 23 (about ofVertex v)) w))
           (λ _. refl)
 
-      projected-same : (o : Option ℕ) → ((v : ℕ) → member v (listed o) ≡ true → member v (verticesMet m b) ≡ true) → projected m c o ≡ projected n c o
+      pub projected-same : (o : Option ℕ) → ((v : ℕ) → member v (listed o) ≡ true → member v (verticesMet m b) ≡ true) → projected m c o ≡ projected n c o
       projected-same none h = refl
       projected-same (some v) h =
           and-same (has (m .vertices) v) (has (n .vertices) v) _ _ (a .vertices .there v (h v (member-head v [])))
           (λ t. ap₂ (λ (f : Found) (d : Vertex). eqb (projectRefusal f (d .point)) 0) curve-same (a .vertices .same v (h v (member-head v [])) t))
 
       -- an end that has projected is there
-      point-same : (o : Option ℕ) → ((v : ℕ) → member v (listed o) ≡ true → member v (verticesMet m b) ≡ true) → projected m c o ≡ true → pointOf m (the o) ≡ pointOf n (the o)
+      pub point-same : (o : Option ℕ) → ((v : ℕ) → member v (listed o) ≡ true → member v (verticesMet m b) ≡ true) → projected m c o ≡ true → pointOf m (the o) ≡ pointOf n (the o)
       point-same none h p = absurd (false≢true p)
       point-same (some v) h p =
           let t = and-both (has (m .vertices) v) (eqb (projectRefusal (curve m c) (pointOf m v)) 0) p .0 in
@@ -102,10 +102,10 @@ module _ (m n : Model) (b : ℕ) (a : Alike m n b) where
       end-listed : (v : ℕ) → member v (edgeVertices (edge m e)) ≡ true → member v (verticesMet m b) ≡ true
       end-listed = Walked.vertex-in m b e met there
 
-      start-met : (v : ℕ) → member v (listed (edge m e .start)) ≡ true → member v (verticesMet m b) ≡ true
+      pub start-met : (v : ℕ) → member v (listed (edge m e .start)) ≡ true → member v (verticesMet m b) ≡ true
       start-met v g = end-listed v (in-front v (listed (edge m e .start)) (listed (edge m e .end)) g)
 
-      stop-met : (v : ℕ) → member v (listed (edge m e .end)) ≡ true → member v (verticesMet m b) ≡ true
+      pub stop-met : (v : ℕ) → member v (listed (edge m e .end)) ≡ true → member v (verticesMet m b) ≡ true
       stop-met v g = end-listed v (behind v (listed (edge m e .start)) (listed (edge m e .end)) g)
 
       samples-same : (k : ℕ) → sampleTests m k e c s ≡ sampleTests n k e c s
@@ -121,7 +121,7 @@ module _ (m n : Model) (b : ℕ) (a : Alike m n b) where
           joined-alike _ _ (run 1 k) (λ i _. sample-same _ ∙ ap₂ (λ (t u : Float). sampleTest n e c s (sampleAt t u k i)) t0 t1))
           (λ _. refl)
 
-      ring-same : otherRing m e c s ≡ otherRing n e c s
+      pub ring-same : otherRing m e c s ≡ otherRing n e c s
       ring-same = rw (edge-same, curve-same, surface-same)
 
     -- the edge on its curve and a surface, where there are both
@@ -138,19 +138,19 @@ module _ (m n : Model) (b : ℕ) (a : Alike m n b) where
 
   -- ---- a fin that is met, and its edge
 
-  readable-same : (i : ℕ) → member i (finsMet m b) ≡ true → readableFin m i ≡ readableFin n i
+  pub readable-same : (i : ℕ) → member i (finsMet m b) ≡ true → readableFin m i ≡ readableFin n i
   readable-same i met =
       and-same (has (m .fins) i) (has (n .fins) i) _ _ (a .fins .there i (Walked.fin-seen m b i met))
       (λ h. a .edges .there (fin m i .edge) (Walked.edge-in m b i met h) ∙ ap (λ (d : Fin). has (n .edges) (d .edge)) (a .fins .same i (Walked.fin-seen m b i met) h))
 
   module _ (i : ℕ) (met : member i (finsMet m b) ≡ true) (readable : readableFin m i ≡ true) where
-    fin-there : (has (m .fins) i ≡ true) × (has (m .edges) (fin m i .edge) ≡ true)
+    pub fin-there : (has (m .fins) i ≡ true) × (has (m .edges) (fin m i .edge) ≡ true)
     fin-there = and-both (has (m .fins) i) (has (m .edges) (fin m i .edge)) readable
 
-    fin-same : fin m i ≡ fin n i
+    pub fin-same : fin m i ≡ fin n i
     fin-same = a .fins .same i (Walked.fin-seen m b i met) (fin-there .0)
 
-    its-edge : edge m (fin m i .edge) ≡ edge n (fin m i .edge)
+    pub its-edge : edge m (fin m i .edge) ≡ edge n (fin m i .edge)
     its-edge = a .edges .same (fin m i .edge) (Walked.edge-in m b i met (fin-there .0)) (fin-there .1)
 
     ends-same : endsOf m i ≡ endsOf n i
@@ -306,7 +306,7 @@ module _ (m n : Model) (b : ℕ) (a : Alike m n b) where
           let each = joined-alike (regionFindings m o b) (regionFindings n o b) (body m b .regions) (λ r q. region-findings-same r (met r q)) in
           ap₂ _++_ (ap₂ _++_ first each ∙ ap (λ (d : Body). layout n b (d .regions) ++ joined (regionFindings n o b) (d .regions)) (Walked.body-same m n b a there)) manifold-edges-same
 
-    check-refused : checkRefusal m o b ≡ checkRefusal n o b
+    pub check-refused : checkRefusal m o b ≡ checkRefusal n o b
     unfolding checkRefusal
     check-refused = ap (λ t. 1 unless leb (o .edgeSamples) 255 then 2 unless t) (Walked.body-there m n b a)
 

@@ -1,0 +1,3 @@
+// No code: what is unchecked in a report, definitions and theorems (specs/). A crate has a function, so here is one.
+
+pub fn nothing() {}

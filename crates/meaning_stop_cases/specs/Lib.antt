@@ -1,0 +1,3 @@
+pub mod Splits
+pub mod Bodies
+pub mod Doubts

@@ -1,0 +1,11 @@
+pub mod Missing
+pub mod Parts
+pub mod Absent
+pub mod TwoTold
+pub mod Follows
+pub mod Walked
+pub mod Measured
+pub mod Doubted
+pub mod Statements
+pub mod Shells
+pub mod Met

@@ -1,0 +1,9 @@
+pub mod Stops
+pub mod Splits
+pub mod Bodies
+pub mod Opened
+pub mod Laws
+pub mod Numbers
+pub mod BodyNumbers
+pub mod Statements
+pub mod Telling
