@@ -1,4 +1,4 @@
-/* Lays out the trial stone, asks all that the header has, takes it in on a sheet, mends its pointers, splits an edge, keeps it as bytes, is refused, also as the other office, and does so by both versions. What it must print is the file `stdout` beside it. */
+/* Lays out the trial stone, asks all that the header has, takes it in on a sheet, lays it in courses, mends its pointers, splits an edge, keeps it as bytes, is refused, also as the other office, and does so by both versions. What it must print is the file `stdout` beside it. */
 #include <inttypes.h>
 #include <string.h>
 
@@ -59,6 +59,47 @@ static void stones(void)
     office = 1;
     taken("as office 1", &sheet);
     office = 0;
+}
+
+/* The stones of a course, as they stand behind a refusal too. */
+static void coursed(const char *what, const uint32_t *table, size_t k, size_t course)
+{
+    static uint64_t sum[3];
+    told(what, brunskerl_course_total(ASKED, table, k, course, FACES, &sum));
+    printf("  %" PRIu64 " stones, total (%" PRIu64 ", %" PRIu64 ")\n", sum[0], sum[1], sum[2]);
+}
+
+/* Five courses of 16 entries, each of the course before it, the first of the stone; edited, and read. */
+static void courses(void)
+{
+    enum { K = 1 + 6 * 17 };
+    static uint32_t table[K];
+    uint32_t one[1], entry[2];
+    told("courses without a word", brunskerl_make_courses(table, 0));
+    done(brunskerl_make_courses(table, K), "a course table");
+    for (uint32_t c = 0; c < 5; c++) {
+        done(brunskerl_insert_course(table, K, &one), "a course");
+        for (unsigned i = 0; i < 16; i++)
+            done(brunskerl_append_course_entry(table, K, c, c > 0, c > 0 ? c - 1 : 0), "an entry");
+    }
+    told("a seventeenth entry", brunskerl_append_course_entry(table, K, 0, 0, 0));
+    coursed("a course of 16 stones", table, K, 0);
+    coursed("a course of four levels", table, K, 3);
+    coursed("a course of five levels", table, K, 4);
+    done(brunskerl_put_course_entry(table, K, 2, 15, 0, 7), "another entry");
+    coursed("a course with a missing body", table, K, 4);
+    done(brunskerl_strike_course_entry(table, K, 2, 15), "an entry struck");
+    told("an entry of a tag that is none", brunskerl_append_course_entry(table, K, 2, 2, 0));
+    done(brunskerl_insert_course(table, K, &one), "an empty course");
+    coursed("an empty course", table, K, one[0]);
+    told("a course too many", brunskerl_insert_course(table, K, &one));
+    done(brunskerl_course_count(table, K, &one), "the count");
+    printf("%u courses", (unsigned)one[0]);
+    done(brunskerl_course_length(table, K, 2, &one), "the length");
+    done(brunskerl_course_entry(table, K, 2, 14, &entry), "an entry");
+    printf(", %u entries of course 2, the last of tag %u and id %u\n", (unsigned)one[0], (unsigned)entry[0], (unsigned)entry[1]);
+    told("the entry behind it", brunskerl_course_entry(table, K, 2, 15, &entry));
+    coursed("courses that cannot be read", table, K - 1, 0);
 }
 
 /* Binary STL of the stone, which its own tables have no room for, read into other memory with room for that and no more. */
@@ -324,6 +365,7 @@ int main(void)
     walks();
     measured();
     stones();
+    courses();
     drawn();
     report();
     pointers();

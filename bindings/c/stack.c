@@ -72,6 +72,29 @@ CALL(fin_vertices, 0, SLOTS(4))
 CALL(body_bounding_box, office, 0, VERTICES, REALS(6))
 CALL(body_volume, office, 0, FACES, REALS(1))
 CALL(sheet_take, office, 0, FACES, &sheet)
+/* A table of four courses within each other. */
+enum { TABLE = 1 + 5 * 17 };
+static uint32_t courses[TABLE];
+static uint64_t sum[3];
+static void table(void)
+{
+    memset(courses, 0, sizeof courses);
+    courses[0] = 4;
+    for (uint32_t c = 0; c < 4; c++) {
+        courses[1 + 17 * c] = 2;
+        courses[2 + 17 * c] = courses[3 + 17 * c] = c > 0 ? 65536 + c - 1 : 0;
+    }
+}
+#define COURSED(name, ...) static void name(void) { table(); brunskerl_##name(courses, TABLE, __VA_ARGS__); }
+static void make_courses(void) { brunskerl_make_courses(courses, TABLE); }
+COURSED(insert_course, SLOTS(1))
+COURSED(append_course_entry, 3, 1, 0)
+COURSED(put_course_entry, 3, 0, 1, 0)
+COURSED(strike_course_entry, 3, 0)
+COURSED(course_count, SLOTS(1))
+COURSED(course_length, 3, SLOTS(1))
+COURSED(course_entry, 3, 0, SLOTS(2))
+static void course_total(void) { table(); brunskerl_course_total(LENT, office, courses, TABLE, 3, FACES, &sum); }
 CALL(stl_length, office, 0, FACES, &length)
 CALL(write_stl, office, 0, FACES, file, sizeof file, &length)
 /* One triangle, read into empty tables, which have room for it. */
@@ -121,7 +144,8 @@ static const struct {
     ROW(insert_vertex), ROW(insert_curve), ROW(insert_surface), ROW(set_body), ROW(set_region), ROW(set_shell), ROW(set_face),
     ROW(set_loop), ROW(set_fin), ROW(set_edge), ROW(set_vertex), ROW(set_curve), ROW(set_surface), ROW(set_fin_geometry), ROW(contains),
     ROW(list_entry), ROW(put_entry), ROW(append_entry), ROW(strike_entry), ROW(body_faces), ROW(body_edges), ROW(body_vertices),
-    ROW(fin_vertices), ROW(body_bounding_box), ROW(body_volume), ROW(sheet_take), ROW(stl_length), ROW(write_stl), ROW(read_stl), ROW(edge_parameter_bounds), ROW(split_line_edge), ROW(check_body),
+    ROW(fin_vertices), ROW(body_bounding_box), ROW(body_volume), ROW(sheet_take), ROW(make_courses), ROW(insert_course), ROW(append_course_entry), ROW(put_course_entry), ROW(strike_course_entry),
+    ROW(course_count), ROW(course_length), ROW(course_entry), ROW(course_total), ROW(stl_length), ROW(write_stl), ROW(read_stl), ROW(edge_parameter_bounds), ROW(split_line_edge), ROW(check_body),
     ROW(first_fault), ROW(fit_to_saw), ROW(mend_changes), ROW(mend), ROW(image_length), ROW(write_image), ROW(read_image), ROW(make),
 };
 

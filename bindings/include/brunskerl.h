@@ -151,6 +151,30 @@ uint32_t brunskerl_body_volume(BRUNSKERL_MEMORY, uint32_t office, size_t body, u
  * of each face, 8 where the sheet has 65,536 stones. A refusal leaves all five words. */
 uint32_t brunskerl_sheet_take(BRUNSKERL_MEMORY, uint32_t office, size_t body, uint8_t *faces, size_t f, uint64_t (*sheet)[5]);
 
+/* The masons' courses, courses within courses. A course table stands in words of its own, `courses`, k of them: how many courses it has, then 17 words for each, how many
+ * entries it has and room for 16. So k words hold (k - 1) / 17 courses, and never more than 256. An entry is a tag, 0 for a body or 1 for a course, and an id below 65536;
+ * in the table it is one word, the id and 65536 more for a course. Tables are made and edited by the calls here, or laid out by hand. An id may name no record.
+ * Refusal 9 is for no word at all, a count of courses above 256 or above what k words hold, a course of more than 16 entries, and a word from 131072 on for an entry; it
+ * comes first. A refusal leaves every word and every slot. No image has the courses.
+ *
+ * An empty table: 9 for no word alone; the other words stay. A course more, which is empty, and its id: 8 for no room. */
+uint32_t brunskerl_make_courses(uint32_t *courses, size_t k);
+uint32_t brunskerl_insert_course(uint32_t *courses, size_t k, uint32_t (*id)[1]);
+/* An entry more at the end: 1 for a tag above 1 or an id above 65535, 2 for a missing course, 8 for 16 entries. Another entry at a place, from 0: 1, 2, 1 for a place that is
+ * not there. Without the entry at a place, those behind it moved one down: 2, 1. */
+uint32_t brunskerl_append_course_entry(uint32_t *courses, size_t k, size_t course, uint32_t tag, uint32_t id);
+uint32_t brunskerl_put_course_entry(uint32_t *courses, size_t k, size_t course, size_t place, uint32_t tag, uint32_t id);
+uint32_t brunskerl_strike_course_entry(uint32_t *courses, size_t k, size_t course, size_t place);
+/* How many courses there are; how many entries a course has: 2; the entry at a place, its tag and its id: 2, 1. */
+uint32_t brunskerl_course_count(const uint32_t *courses, size_t k, uint32_t (*count)[1]);
+uint32_t brunskerl_course_length(const uint32_t *courses, size_t k, size_t course, uint32_t (*length)[1]);
+uint32_t brunskerl_course_entry(const uint32_t *courses, size_t k, size_t course, size_t place, uint32_t (*entry)[2]);
+/* The stones of a course and of the courses in it, each as often as it is listed: how many there are, and the exact total of their numbers, in two words as the sheet has it.
+ * There are four levels, the course asked for being the first. A course without entries has no stones and total 0.
+ * Refusals: 9, of the tables or the course table, 1 for the office, 8 for short marks, 2 for a course or a body missing within the four levels, also a body of the other
+ * office, 1 where a course on the fourth level lists a course, there or not, then those of the sheet for a body, by the first stone in order that has one. */
+uint32_t brunskerl_course_total(BRUNSKERL_MEMORY, uint32_t office, const uint32_t *courses, size_t k, size_t course, uint8_t *faces, size_t f, uint64_t (*sum)[3]);
+
 /* The body as binary STL, for the viewer: an 80-byte header of zeros, the number of triangles in 32 bits, then 50 bytes for each triangle, a normal of zeros, its three
  * corners and an attribute of zeros; all numbers little-endian, coordinates in binary32. The triangles are the fans that the volume uses, in its order and outward, the
  * fins less two of each face that it takes: a fan of a face that is not convex can reach beyond it, and a triangle is flat where an edge was split. The file is what the

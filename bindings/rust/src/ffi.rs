@@ -47,6 +47,9 @@ calls! {
     brunskerl_fit_to_saw(office: u32, body: usize, faces: *mut u8, f: usize, edges: *mut u8, e: usize, fit: *mut [u32; 1]) -> u32;
     brunskerl_body_volume(office: u32, body: usize, faces: *mut u8, f: usize, volume: *mut [f64; 1]) -> u32;
     brunskerl_sheet_take(office: u32, body: usize, faces: *mut u8, f: usize, sheet: *mut [u64; 5]) -> u32;
+    brunskerl_course_total(
+        office: u32, courses: *const u32, k: usize, course: usize, faces: *mut u8, f: usize, sum: *mut [u64; 3]
+    ) -> u32;
     brunskerl_mend_changes(office: u32, body: usize, marks: *mut u8, k: usize, list: *mut u32, l: usize, count: *mut [usize; 1]) -> u32;
     brunskerl_stl_length(office: u32, body: usize, faces: *mut u8, f: usize, length: *mut [usize; 1]) -> u32;
     brunskerl_write_stl(office: u32, body: usize, faces: *mut u8, f: usize, bytes: *mut u8, b: usize, length: *mut [usize; 1]) -> u32;
@@ -82,4 +85,16 @@ calls! {
     brunskerl_mend(office: u32, body: usize, marks: *mut u8, k: usize, list: *mut u32, l: usize, count: *mut [usize; 1]) -> u32;
     brunskerl_read_stl(office: u32, bytes: *const u8, b: usize, id: *mut [u32; 1]) -> u32;
     brunskerl_read_image(bytes: *const u8, b: usize) -> u32;
+}
+
+// The calls on a course table alone.
+unsafe extern "C" {
+    pub fn brunskerl_make_courses(courses: *mut u32, k: usize) -> u32;
+    pub fn brunskerl_insert_course(courses: *mut u32, k: usize, id: *mut [u32; 1]) -> u32;
+    pub fn brunskerl_append_course_entry(courses: *mut u32, k: usize, course: usize, tag: u32, id: u32) -> u32;
+    pub fn brunskerl_put_course_entry(courses: *mut u32, k: usize, course: usize, place: usize, tag: u32, id: u32) -> u32;
+    pub fn brunskerl_strike_course_entry(courses: *mut u32, k: usize, course: usize, place: usize) -> u32;
+    pub fn brunskerl_course_count(courses: *const u32, k: usize, count: *mut [u32; 1]) -> u32;
+    pub fn brunskerl_course_length(courses: *const u32, k: usize, course: usize, length: *mut [u32; 1]) -> u32;
+    pub fn brunskerl_course_entry(courses: *const u32, k: usize, course: usize, place: usize, entry: *mut [u32; 2]) -> u32;
 }

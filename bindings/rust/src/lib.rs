@@ -17,6 +17,8 @@
 //!
 //! [`Model::take`] takes a stone in on a [`Sheet`], in whole numbers.
 //!
+//! [`Model::course_total`] adds up the stones of a course of [`Courses`], whose entries are bodies and other courses.
+//!
 //! [`Model::mend`] mends the pointers upward of a body that came with right lists and wrong ones, and tells each [`Change`].
 //!
 //! [`Model::save`] gives a model as bytes, to be kept, and [`Model::load`] takes it back.
@@ -24,6 +26,7 @@
 //! The example `lintel` builds a box, checks it, splits an edge and prints the report.
 
 mod changes;
+mod courses;
 mod directions;
 mod ffi;
 mod records;
@@ -34,6 +37,7 @@ mod words;
 use records::optional;
 
 pub use changes::Change;
+pub use courses::{CourseTotal, Courses, Entry};
 pub use records::{BodyKind, Carrier, Edge, Face, Fin, List, Office, Region, Sense, Version, Vertex};
 pub use sheet::{Sheet, Stone};
 pub use words::{Entity, Fault, Refusal};
@@ -544,6 +548,30 @@ impl Model {
             self,
             brunskerl_sheet_take(self.office as u32, body as usize, f.as_mut_ptr(), f.len(), sheet.words())
         ))
+    }
+
+    /// How many stones a course has, those of the courses in it with them, and the exact total of their numbers, as [`Model::take`] would add them up one by one. A course or a
+    /// body that is listed twice counts twice; a course without entries has no stones.
+    ///
+    /// [`Refusal::NotFound`] for a course or a body missing within four levels, of which the course asked for is the first; then [`Refusal::BadArgument`] where a course on the
+    /// fourth level lists a course, there or not; then as [`Model::take`] is refused for a body, by the first stone in order that is.
+    pub fn course_total(&self, courses: &Courses, course: u32) -> Result<CourseTotal, Refusal> {
+        let [mut f, ..] = self.marks();
+        let table = courses.words();
+        let mut sum = [0; 3];
+        Refusal::of(ask!(
+            self,
+            brunskerl_course_total(
+                self.office as u32,
+                table.as_ptr(),
+                table.len(),
+                course as usize,
+                f.as_mut_ptr(),
+                f.len(),
+                &mut sum
+            )
+        ))?;
+        Ok(CourseTotal::of(sum))
     }
 
     /// The body as binary STL, for a viewer: the triangles of the fans that [`Model::body_volume`] uses, in its order and outward, with normals, header and attributes

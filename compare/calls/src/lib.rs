@@ -1,5 +1,7 @@
 //! Whole models in the Rust and in lent memory, asked the same through the station's calls.
 
+pub mod course_wrong;
+pub mod courses;
 pub mod edits;
 pub mod first;
 pub mod first_wrong;

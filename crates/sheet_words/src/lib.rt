@@ -22,9 +22,9 @@ pub struct StoneSheet {
 }
 
 // A total in two words, since a function returns one value.
-struct Total {
-    low: u64,
-    high: u64,
+pub struct Total {
+    pub low: u64,
+    pub high: u64,
 }
 
 // 2^63: from here on a word is a negative number.
@@ -99,7 +99,7 @@ fn lowered(high: u64, low: u64, by: u64) -> Total
 }
 
 // The total and plus - minus.
-fn moved(high: u64, low: u64, plus: u64, minus: u64) -> Total
+pub fn moved(high: u64, low: u64, plus: u64, minus: u64) -> Total
     ensures { λ r. ⌜ r ≡ wordsOfTotal (asSigned (2 ^ 127) (high * 2 ^ 64 + low) +ℤ subℕ plus minus) ⌝ }
 {
     if plus < minus {

@@ -4,13 +4,14 @@
 use std::hint::black_box;
 use std::time::{Duration, Instant};
 
+use calls::courses::{Ask, COURSE, Rule as Coursing, STRIDE, Yard, read};
 use calls::layout::{LARGEST, Lent};
 use calls::mends::{self, MARKS, Mend, apply};
 use calls::offices::Station;
 use calls::sheets::Stone;
 use calls::stl::{self, file};
 use calls::stl_files::{self, Around, sphere};
-use calls::stl_read::{self, Ask};
+use calls::stl_read;
 use calls::walks::Walk;
 use gensolid_check::{CheckOptions, check_body};
 use gensolid_topo::{Model, body_bounding_box, body_volume, split_line_edge};
@@ -127,6 +128,53 @@ fn drawing(model: &Model, names: &Names, lent: &Lent) {
     );
 }
 
+/// A course (W-213) of so many entries on each of four levels, over all bodies in turn: beside the count in Rust that the comparison goes by, of stones that it knows, and
+/// beside the same stones taken in on a sheet one by one.
+fn coursed(what: &str, bodies: usize, entries: usize, names: &Names) {
+    let mut plain = Plain::prisms(bodies, 4);
+    for x in plain.vertices.iter_mut().flat_map(|r| &mut r.point) {
+        *x = (*x * 16.0).round() / 16.0;
+    }
+    let gridded = model(names, &mut plain);
+    let lent = Lent::holding(&plain, plain.used(), 0, 0.0);
+    let mut words = vec![0; 1 + STRIDE * 4];
+    words[0] = 4;
+    for (at, word) in words[1..].iter_mut().enumerate() {
+        let (course, place) = (at / STRIDE, at % STRIDE);
+        *word = match (course, place) {
+            (_, 0) => entries as u32,
+            (0, _) => ((place - 1) % bodies) as u32,
+            _ => COURSE + course as u32 - 1,
+        };
+    }
+    let station = Station {
+        model: &gridded,
+        names,
+        plain: &plain,
+    };
+    let stones: Vec<Stone> = (0..bodies).map(|b| Stone::of(station, 0, b)).collect();
+    let mut yard = Yard::of(station, &stones);
+    yard.courses = read(&words).expect("a table");
+    let ask = Ask {
+        office: 0,
+        course: 3,
+        short: false,
+        slots: [0; 3],
+    };
+    let rust = time(|| drop(black_box(yard.answer(black_box(&ask), &Coursing::REQUEST))));
+    let ours = time(|| assert_eq!(black_box(&ask).ours(&lent, &words, 0, 0).number, 0, "a course"));
+    row(what, rust, ours);
+    let taken = time(|| {
+        let mut sheet = [0; 5];
+        let [mut faces, ..] = lent.marks(0);
+        for k in 0..entries.pow(4) {
+            assert_eq!(lent.take(k % entries % bodies, &mut faces, &mut sheet), 0, "a stone");
+        }
+        black_box(sheet);
+    });
+    println!("  {what:24} one by one {:>9.3} us, ratio {:.4}", micro(taken), ours.as_secs_f64() / taken.as_secs_f64());
+}
+
 /// A file read into a body (W-210), beside the reader in Rust that the comparison goes by, which finds corners and edges by hash maps: two spheres, and as many triangles
 /// as there can be that share nothing. Into memory of the largest capacities with no record in it; the counts are put back each time on both sides.
 fn reading() {
@@ -139,7 +187,7 @@ fn reading() {
     for (what, triangles) in files {
         let bytes = stl_files::file(&triangles, &Around::ZEROS, &mut Random::new(1, 0, 0));
         let long = bytes.len();
-        let ask = Ask { office: 0, slot: 0, bytes };
+        let ask = stl_read::Ask { office: 0, slot: 0, bytes };
         let empty = Plain { precision: 0.001, ..Plain::default() };
         let mut lent = Lent::holding(&empty, LARGEST, 0, 0.0);
         let rust = time(|| {
@@ -324,6 +372,12 @@ fn main() {
         split_line_edge(&mut split, names.edges[id], 0.5).expect("a split");
     }
     models.insert(2, ("a body with 2,000 edges", split));
+
+    println!("courses of four levels (W-213)");
+    coursed("16 entries, one body", 1, 16, &names);
+    coursed("16 entries, 60 bodies", 60, 16, &names);
+    coursed("one stone, one body", 1, 1, &names);
+    coursed("one stone, 60 bodies", 60, 1, &names);
 
     for (what, model) in &models {
         let plain = original::read(model, &names);

@@ -9,7 +9,7 @@ use calls::noise::{around, wild};
 use calls::offices::Station;
 use calls::sheet_wrong::{How, WRONGS};
 use calls::sheets::{Rule, Sheet, Stone, Take, Taken, limit, total, with_total};
-use calls::solids::{again, equal, turned};
+use calls::solids::{about, again, equal, gridded, turned};
 use calls::spoil::spoil;
 use calls::tally::Tally;
 use models::original::{self, Names};
@@ -21,90 +21,6 @@ use models::{Made, Sort, made};
 const ABOVE: [u32; 5] = [2, 2, 3, 1 << 31, u32::MAX];
 
 // ---- models on the grid, beside it, and at its ends
-
-/// A whole number of sixteenths of a millimetre, at most 2,048 mm in size.
-fn whole(random: &mut Random) -> f64 {
-    let most = random.pick(&[4, 64, 1_000, 32_768, 32_768]);
-    let n = random.below(2 * most + 1) as f64 - most as f64;
-    match random.below(12) {
-        0 => 2_048.0,
-        1 => -2_048.0,
-        2 => -0.0,
-        _ => n / 16.0,
-    }
-}
-
-/// A coordinate about the grid and its ends, on it or off it.
-fn about(random: &mut Random) -> f64 {
-    let on = whole(random);
-    match random.below(4) {
-        0 => random.pick(&[
-            on.next_up(),
-            on.next_down(),
-            on + 1.0 / 32.0,
-            on + 1.0 / 64.0,
-        ]),
-        1 => {
-            let beyond = random.pick(&[
-                2048.0625,
-                2048.03125,
-                2_048.0f64.next_up(),
-                2_049.0,
-                4_096.0,
-            ]);
-            random.pick(&[beyond, -beyond, 2_048.0f64.next_down(), -2047.9375])
-        }
-        2 => random.pick(&[
-            f64::NAN,
-            f64::INFINITY,
-            f64::NEG_INFINITY,
-            f64::MAX,
-            1.0e300,
-            5.0e-324,
-        ]),
-        _ => random.pick(&[
-            0.0,
-            -0.0,
-            0.1,
-            1.0 / 3.0,
-            1.0 / 32.0,
-            -1.0e-300,
-            9_007_199_254_740_993.0,
-        ]),
-    }
-}
-
-/// The points moved onto the grid, all of them or all but one coordinate or two; at times they stay as they are.
-fn gridded(plain: &mut Plain, random: &mut Random) -> String {
-    let how = random.pick(&[
-        "as made",
-        "snapped",
-        "snapped",
-        "snapped",
-        "scattered",
-        "scattered",
-        "far",
-    ]);
-    for x in plain.vertices.iter_mut().flat_map(|r| &mut r.point) {
-        let near = (*x * 16.0).round() / 16.0;
-        match how {
-            "as made" => {}
-            "snapped" if near.abs() <= 2_048.0 => *x = near,
-            "far" => *x = (random.below(65_537) as f64 - 32_768.0) / 16.0,
-            _ => *x = whole(random),
-        }
-    }
-    let mut told = format!("points {how}");
-    if !plain.vertices.is_empty() && random.one_in(3) {
-        for _ in 0..random.pick(&[1, 1, 2]) {
-            let (id, axis) = (random.below(plain.vertices.len()), random.below(3));
-            let x = about(random);
-            plain.vertices[id].point[axis] = x;
-            told += &format!(", vertex {id}: {x:e} on axis {axis}");
-        }
-    }
-    told
-}
 
 /// A point off the grid that is in no fan: an acorn vertex, or one that is nobody's.
 fn loose(plain: &mut Plain, random: &mut Random) -> String {

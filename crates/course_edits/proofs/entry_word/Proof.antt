@@ -1,0 +1,22 @@
+-- `course_edits::entry_word` meets its contract. Assumes nothing.
+use mathlib.Core.Path.{refl}
+use borrow.Author.Needs.{needs}
+use Rattle.course_edits.proofs.entry_word.Statement.{statement}
+use Rattle.course_edits.proofs.entry_word.Tie as tie
+
+mul-result : tie.Need-mul-result
+mul-result c = search needs
+
+add-result : tie.Need-add-result
+add-result c = search needs
+
+returns : tie.Need-returns
+returns c = refl
+
+pub entry-word-spec : {M : Type 1} → statement M
+entry-word-spec =
+    tie.close
+    (tie.spec
+    mul-result
+    add-result
+    returns)

@@ -1,0 +1,4 @@
+pub mod Answers
+pub mod Told
+pub mod Stones
+pub mod Laws
