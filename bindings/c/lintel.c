@@ -148,6 +148,33 @@ static void drawn(void)
     read_back(file, written[0]);
 }
 
+/* The slab profile, the areas of faces and their list behind it. */
+static void profiled(const char *what, size_t entries)
+{
+    uint64_t areas[7] = {7, 7, 7, 7, 7, 7, 7}, profile[3] = {0};
+    told(what, brunskerl_slab_profile(ASKED, 0, EDGES, areas, entries, &profile));
+    printf("  rule %" PRIu64 ", entity %" PRIu64 ", area %" PRIu64 "; faces", profile[0], profile[1], profile[2]);
+    for (unsigned k = 0; k < 7; k++)
+        printf(" %" PRIu64, areas[k]);
+    printf("\n");
+}
+
+/* The stone as a slab: accepted, on a list too short, with rules broken, and as another office. */
+static void slabs(void)
+{
+    profiled("the slab profile", 7);
+    profiled("the slab profile on a list of five", 5);
+    done(brunskerl_set_vertex(LENT, 7, WORDS(1, 0), FLOATS(4, 4, 3, 2.03125, 0)), "a corner moved");
+    profiled("the slab profile with a corner moved", 7);
+    done(brunskerl_set_vertex(LENT, 7, WORDS(1, 0), FLOATS(4, 4, 3, 2, 0)), "the corner moved back");
+    done(brunskerl_set_surface(LENT, 1, WORDS(1, 1), FLOATS(6, 0, 0, 2, 0.6, 0, 0.8)), "a plane tilted");
+    profiled("the slab profile with a plane tilted", 7);
+    done(brunskerl_set_surface(LENT, 1, WORDS(1, 1), FLOATS(6, 0, 0, 2, 0, 0, 1)), "the plane tilted back");
+    office = 1;
+    profiled("the slab profile, as office 1", 7);
+    office = 0;
+}
+
 static void report(void)
 {
     uint32_t list[16], fit[1], first[5];
@@ -367,6 +394,7 @@ int main(void)
     stones();
     courses();
     drawn();
+    slabs();
     report();
     pointers();
     entries();

@@ -11,7 +11,7 @@ enum { SIZE = 1 << 20, PAINT = 0xa5, ABOVE = 128 };
 static _Alignas(4096) unsigned char stack[SIZE];
 
 static uint32_t ids[16], code;
-static uint64_t sheet[5];
+static uint64_t sheet[5], areas[16], profile[3];
 static size_t counts[3], length[1];
 static double floats[6];
 
@@ -104,6 +104,7 @@ static void read_stl(void)
     brunskerl_make(LENT, 0.001, 2);
     code = brunskerl_read_stl(LENT, office, triangle, sizeof triangle, SLOTS(1));
 }
+CALL(slab_profile, office, 0, EDGES, areas, 16, &profile)
 CALL(edge_parameter_bounds, 0, REALS(2))
 /* By the other office, which walks the body and is refused, and by its own. */
 static void split_line_edge(void)
@@ -145,7 +146,7 @@ static const struct {
     ROW(set_loop), ROW(set_fin), ROW(set_edge), ROW(set_vertex), ROW(set_curve), ROW(set_surface), ROW(set_fin_geometry), ROW(contains),
     ROW(list_entry), ROW(put_entry), ROW(append_entry), ROW(strike_entry), ROW(body_faces), ROW(body_edges), ROW(body_vertices),
     ROW(fin_vertices), ROW(body_bounding_box), ROW(body_volume), ROW(sheet_take), ROW(make_courses), ROW(insert_course), ROW(append_course_entry), ROW(put_course_entry), ROW(strike_course_entry),
-    ROW(course_count), ROW(course_length), ROW(course_entry), ROW(course_total), ROW(stl_length), ROW(write_stl), ROW(read_stl), ROW(edge_parameter_bounds), ROW(split_line_edge), ROW(check_body),
+    ROW(course_count), ROW(course_length), ROW(course_entry), ROW(course_total), ROW(stl_length), ROW(write_stl), ROW(read_stl), ROW(slab_profile), ROW(edge_parameter_bounds), ROW(split_line_edge), ROW(check_body),
     ROW(first_fault), ROW(fit_to_saw), ROW(mend_changes), ROW(mend), ROW(image_length), ROW(write_image), ROW(read_image), ROW(make),
 };
 

@@ -194,6 +194,20 @@ uint32_t brunskerl_write_stl(BRUNSKERL_MEMORY, uint32_t office, size_t body, uin
  * corners, 8 where a table or a list has no room, an edge's ninth fin included. A refusal leaves all memory and the slot. */
 uint32_t brunskerl_read_stl(BRUNSKERL_MEMORY_OUT, uint32_t office, const uint8_t *bytes, size_t b, uint32_t (*id)[1]);
 
+/* The slab profile: is the body one of slabs along the axes? It is accepted where all rules hold:
+ *   1  the normal of each face's plane is 1 or -1 in one place and a zero of either sign in the two others
+ *   2  each face has one loop
+ *   3  each fin of a loop ends where the next starts, the last where the first does; an end that is none breaks it
+ *   4  the ends of each edge differ in exactly one coordinate; an end that is none and a missing vertex break it
+ *   5  each vertex is there, and its coordinates are whole sixteenths of a millimetre, at most 2,048 mm in size
+ *   6  the corners of each face, where its fins start, have one value on the axis of its normal
+ * `profile` has the first rule that is broken and the first in walk order that breaks it, a face for the rules 1, 2 and 6, a fin for 3, an edge for 4, a vertex for 5; or two
+ * zeros, and then the area of all faces in square sixteenths of a millimetre, exactly. Of an accepted body the front of `areas` has the area of each face in the order of the
+ * walk, the size of the signed area of its loop. Wire edges and acorn vertices count for the rules 4 and 5 and have no area; a body without a face is accepted with area 0.
+ * Refusals: 9, 1 for the office, 8 for short marks, then those that the box and the volume begin with, 6 for a body that is no solid, then 8 where the body is accepted and
+ * has more than a faces. A refusal leaves `profile`; a refusal and a broken rule leave every area, and those behind the body's always stay. */
+uint32_t brunskerl_slab_profile(BRUNSKERL_MEMORY, uint32_t office, size_t body, uint8_t *faces, size_t f, uint8_t *edges, size_t e, uint64_t *areas, size_t a, uint64_t (*profile)[3]);
+
 /* The parameters of an edge's ends on its line, and the split at a fraction between them: that edge, the new edge, the new
  * vertex. The line's direction must have the length 1, or the new vertex can lie beyond the edge's end.
  * The parameters: 9, then tests 2 and 4 to 8 of these, whosever edge it is. The split: 9, 1 for the office, then

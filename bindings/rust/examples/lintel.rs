@@ -1,6 +1,6 @@
 //! Builds a box, checks it, splits an edge where a blade pass ends, takes it in on a sheet, and prints the report.
 
-use brunskerl::{LARGEST, Model, Refusal, Sheet};
+use brunskerl::{LARGEST, Model, Profile, Refusal, Sheet};
 
 fn report(model: &Model, body: u32) -> Result<(), Refusal> {
     let report = model.check_body(body, Some(3))?;
@@ -33,6 +33,10 @@ fn main() -> Result<(), Refusal> {
     let mut sheet = Sheet::new();
     model.take(body, &mut sheet)?;
     println!("the sheet: {} stones, {} in all", sheet.stones(), sheet.total());
+    match model.slab_profile(body)? {
+        Profile::Accepted { areas, total } => println!("a slab: {total} square sixteenths in all, face by face {areas:?}"),
+        Profile::Broken { rule, entity } => println!("no slab: {entity}: {rule}"),
+    }
 
     // A second pass too near the first is refused, not swallowed.
     match model.split_line_edge(0, 0.999_9) {

@@ -53,6 +53,7 @@ calls! {
     brunskerl_mend_changes(office: u32, body: usize, marks: *mut u8, k: usize, list: *mut u32, l: usize, count: *mut [usize; 1]) -> u32;
     brunskerl_stl_length(office: u32, body: usize, faces: *mut u8, f: usize, length: *mut [usize; 1]) -> u32;
     brunskerl_write_stl(office: u32, body: usize, faces: *mut u8, f: usize, bytes: *mut u8, b: usize, length: *mut [usize; 1]) -> u32;
+    brunskerl_slab_profile(office: u32, body: usize, faces: *mut u8, f: usize, edges: *mut u8, e: usize, areas: *mut u64, a: usize, profile: *mut [u64; 3]) -> u32;
     brunskerl_image_length(length: *mut [usize; 1]) -> u32;
     brunskerl_write_image(bytes: *mut u8, b: usize, length: *mut [usize; 1]) -> u32;
     ;

@@ -18,6 +18,7 @@
 //! [`Model::take`] takes a stone in on a [`Sheet`], in whole numbers.
 //!
 //! [`Model::course_total`] adds up the stones of a course of [`Courses`], whose entries are bodies and other courses.
+//! [`Model::slab_profile`] tells whether a stone is made of slabs along the axes, and the exact areas of its faces.
 //!
 //! [`Model::mend`] mends the pointers upward of a body that came with right lists and wrong ones, and tells each [`Change`].
 //!
@@ -31,6 +32,7 @@ mod directions;
 mod ffi;
 mod records;
 mod sheet;
+mod slab;
 mod stone;
 mod words;
 
@@ -40,6 +42,7 @@ pub use changes::Change;
 pub use courses::{CourseTotal, Courses, Entry};
 pub use records::{BodyKind, Carrier, Edge, Face, Fin, List, Office, Region, Sense, Version, Vertex};
 pub use sheet::{Sheet, Stone};
+pub use slab::{Profile, Rule};
 pub use words::{Entity, Fault, Refusal};
 
 /// 01's largest tables: bodies, regions, shells, faces, loops, fins, edges, vertices, curves, surfaces.
@@ -609,6 +612,37 @@ impl Model {
     /// [`Refusal::BadArgument`] for a triangle with two equal corners, where both zeros are equal; [`Refusal::NoRoom`], also for an edge's ninth fin.
     pub fn read_stl(&mut self, file: &[u8]) -> Result<u32, Refusal> {
         insert!(self, brunskerl_read_stl(self.office as u32, file.as_ptr(), file.len()))
+    }
+
+    /// Whether the body is one of slabs along the axes: accepted, with the exact areas of its faces, or the first broken [`Rule`] and the first in walk order that
+    /// breaks it.
+    ///
+    /// Refused as the box and the volume are before they look at a vertex; [`Refusal::NotSolid`] for a body that is no solid.
+    pub fn slab_profile(&self, body: u32) -> Result<Profile, Refusal> {
+        let [mut f, mut e, _] = self.marks();
+        let mut areas = vec![0; LARGEST[3]];
+        let mut told = [0; 3];
+        Refusal::of(ask!(
+            self,
+            brunskerl_slab_profile(
+                self.office as u32,
+                body as usize,
+                f.as_mut_ptr(),
+                f.len(),
+                e.as_mut_ptr(),
+                e.len(),
+                areas.as_mut_ptr(),
+                areas.len(),
+                &mut told
+            )
+        ))?;
+        let [rule, entity, total] = told;
+        if rule != 0 {
+            let (rule, entity) = Rule::broken(rule, entity);
+            return Ok(Profile::Broken { rule, entity });
+        }
+        areas.truncate(self.body_faces(body)?.len());
+        Ok(Profile::Accepted { areas, total })
     }
 
     /// The parameters of the edge's start and end on its line.

@@ -21,6 +21,8 @@ pub mod ours;
 pub mod queries;
 pub mod sheet_wrong;
 pub mod sheets;
+pub mod slab_wrong;
+pub mod slabs;
 pub mod solids;
 pub mod spoil;
 pub mod stl;

@@ -118,6 +118,23 @@ unsafe extern "C" {
         b: usize,
         id: *mut [u32; 1],
     ) -> u32;
+
+    fn brunskerl_slab_profile(
+        room: Room,
+        words: *const u32,
+        n: usize,
+        reals: *const f64,
+        m: usize,
+        office: u32,
+        body: usize,
+        faces: *mut u8,
+        f: usize,
+        edges: *mut u8,
+        e: usize,
+        areas: *mut u64,
+        a: usize,
+        profile: *mut [u64; 3],
+    ) -> u32;
     fn brunskerl_fit_to_saw(
         room: Room,
         words: *const u32,
@@ -524,6 +541,36 @@ impl Lent {
                 faces.as_mut_ptr(),
                 faces.len(),
                 value,
+            )
+        }
+    }
+
+    /// The number alone; the profile is put into its slots, and the areas where they stand (W-212).
+    pub fn slab_profile(
+        &self,
+        body: usize,
+        faces: &mut [u8],
+        edges: &mut [u8],
+        areas: &mut [u64],
+        profile: &mut [u64; 3],
+    ) -> u32 {
+        // SAFETY: the call reads the lent memory, writes to the marks, the areas and the slots, and keeps no address.
+        unsafe {
+            brunskerl_slab_profile(
+                &self.room,
+                self.words.as_ptr(),
+                self.words.len(),
+                self.reals.as_ptr(),
+                self.reals.len(),
+                self.office,
+                body,
+                faces.as_mut_ptr(),
+                faces.len(),
+                edges.as_mut_ptr(),
+                edges.len(),
+                areas.as_mut_ptr(),
+                areas.len(),
+                profile,
             )
         }
     }

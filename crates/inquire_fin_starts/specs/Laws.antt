@@ -37,7 +37,7 @@ start-end true e = refl
 start-end false e = refl
 
 module _ (room w : List ℕ) (x : List Float) (i : ℕ) where
-  start-words : startOf (decode room w x) i ≡ maybeAt (wordsOf room w 6 (finEdge room w i)) (startPlace (word (wordsOf room w 5 i) 2))
+  pub start-words : startOf (decode room w x) i ≡ maybeAt (wordsOf room w 6 (finEdge room w i)) (startPlace (word (wordsOf room w 5 i) 2))
   unfolding decode startPlace
   start-words = start-end (eqb (word (wordsOf room w 5 i) 2) 0) (edge (decode room w x) (finEdge room w i)) ∙ by (eqb (word (wordsOf room w 5 i) 2) 0)
     where

@@ -44,7 +44,7 @@ fn end_refusal(edge: &[u32], at: usize, used: u32) -> u32
 }
 
 // The edge of a fin, as its words.
-fn edge_of<'a>(room: &[usize; 10], words: &'a [u32], i: usize) -> &'a [u32]
+pub fn edge_of<'a>(room: &[usize; 10], words: &'a [u32], i: usize) -> &'a [u32]
     requires { ⌜ Lists (now room) (now words) ⌝ }
     requires { ⌜ Whole (now room) (now words) i ⌝ }
     ensures { λ r. ⌜ now r ≡ wordsOf (now (room .entry)) (now (words .entry)) EDGES (finEdge (now (room .entry)) (now (words .entry)) i) ⌝ }
@@ -53,7 +53,7 @@ fn edge_of<'a>(room: &[usize; 10], words: &'a [u32], i: usize) -> &'a [u32]
     words_of(room, words, EDGES, fin[AT_FIN_EDGE] as usize)
 }
 
-fn place_of(room: &[usize; 10], words: &[u32], i: usize) -> usize
+pub fn place_of(room: &[usize; 10], words: &[u32], i: usize) -> usize
     requires { ⌜ Lists (now room) (now words) ⌝ }
     requires { ⌜ Whole (now room) (now words) i ⌝ }
     ensures { λ r. ⌜ (r ≡ startPlace (word (wordsOf (now (room .entry)) (now (words .entry)) FINS i) AT-FIN-SENSE)) × (r ≤ 2) ⌝ }

@@ -66,7 +66,7 @@ unfolding meets firstOf
 first-meets f s [] = sym (then-none (firstOf f s))
 first-meets f s (y ∷ l) = first-meets f (meet s y) l ∙ ap (λ n. n then firstOf f l) (first-meet f s y) ∙ then-assoc (firstOf f s) (f y) (firstOf f l)
 
-first-firsts : (f : ℕ → ℕ) (l : List ℕ) → firstOf f (firsts l) ≡ firstOf f l
+pub first-firsts : (f : ℕ → ℕ) (l : List ℕ) → firstOf f (firsts l) ≡ firstOf f l
 first-firsts f l = first-meets f [] l ∙ ap (λ n. n then firstOf f l) (firstOf-none f)
 
 -- of lists of lists, of what the ids name, and of a test that has one number
@@ -90,7 +90,7 @@ first-unless p (y ∷ l) = ap (λ n. 2 unless p y then n) (first-unless p l) ∙
     by false = refl
 
 -- two tests that agree where a third passes
-first-where : (f g : ℕ → ℕ) (p : ℕ → Bool) (l : List ℕ) → ((y : ℕ) → p y ≡ true → f y ≡ g y) → all p l ≡ true → firstOf f l ≡ firstOf g l
+pub first-where : (f g : ℕ → ℕ) (p : ℕ → Bool) (l : List ℕ) → ((y : ℕ) → p y ≡ true → f y ≡ g y) → all p l ≡ true → firstOf f l ≡ firstOf g l
 unfolding firstOf all
 first-where f g p [] h e = refl
 first-where f g p (y ∷ l) h e = let both = and-both (p y) (all p l) e in rw (h y (both .0), first-where f g p l h (both .1))

@@ -94,7 +94,7 @@ module _ (room w : List ℕ) (x : List Float) (b : ℕ) (lists : Lists room w) (
       named-all : all (λ e. ltb e (word w 6)) (joined (faceEdges (decode room w x)) walk ++ wires) ≡ true
       named-all = sym (all-firsts-same (λ e. ltb e (word w 6)) (joined (faceEdges (decode room w x)) walk ++ wires)) ∙ firsts-named
 
-  walk-whole : all (faceWhole room w) walk ≡ true
+  pub walk-whole : all (faceWhole room w) walk ≡ true
   walk-whole =
       all-with (λ f. ltb f (word w 3)) (λ f. all (followed room w 6) (listOf room w 5 f) && all (λ l. all (named room w) (listOf room w 6 l)) (listOf room w 5 f)) (faceWhole room w) walk
       (λ f p q. let both = and-both (all (followed room w 6) (listOf room w 5 f)) _ q in face-whole room w f p (both .0) (both .1))

@@ -19,7 +19,7 @@ ghost use Rattle.walk_paths.specs.Paths.{Edged};
 ghost use Rattle.inquire_tally.specs.Tallies.{refusedTally, solidTally, bodyTally};
 
 // By a body's tag: is it solid?
-fn is_solid(tag: u32) -> bool
+pub fn is_solid(tag: u32) -> bool
     ensures { λ r. ⌜ r ≡ isSolid (kindOf tag) ⌝ }
 {
     match tag {

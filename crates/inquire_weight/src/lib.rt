@@ -52,7 +52,7 @@ fn capped(n: usize) -> usize
 }
 
 // What a number is above zero, and below it.
-fn above(v: i64) -> u64
+pub fn above(v: i64) -> u64
     requires { ⌜ natAbs v ≤ 2 ^ 62 ⌝ }
     ensures { λ r. ⌜ r ≡ over v ⌝ }
 {
@@ -62,7 +62,7 @@ fn above(v: i64) -> u64
     v as u64
 }
 
-fn below(v: i64) -> u64
+pub fn below(v: i64) -> u64
     requires { ⌜ natAbs v ≤ 2 ^ 62 ⌝ }
     ensures { λ r. ⌜ r ≡ under v ⌝ }
 {

@@ -3,22 +3,23 @@ use Prim.Native.Nat.{ℕ, _≤_, _<_}
 use native.Mathlib.Omega.{arith}
 use mathlib.Core.Path.{_≡_, refl, sym, ap, _∙_, subst}
 use mathlib.Core.Bool.{Bool, true, false, not, cond, _&&_, _||_, false≢true, or-true}
-use mathlib.Core.List.{List, [], _∷_, _++_}
+use mathlib.Core.List.{List, [], _∷_}
 use mathlib.Core.Option.{Option, none, some}
 use lib.Dec.{eqb, leb, ltb}
 use lib.ListN.{length, getD}
 use borrow.Author.Tests.{ltb-true, eqb-true, eq-eqb}
 use Rattle.meaning.specs.Lists.{member, count, joined, is}
 use Rattle.meaning.specs.Model.{Model, Limits, has, body, region, shell, face, loop, fin, edge}
-use Rattle.meaning.specs.Walks.{shellsOf, faceWalk, faceEdges, edgeWalk}
+use Rattle.meaning.specs.Walks.{shellsOf, faceWalk, edgeWalk}
 use Rattle.meaning.specs.Inquire.{rim}
 use Rattle.meaning.specs.Formed.{bit}
 use Rattle.meaning_list_laws.specs.Tests.{and-both, bit-true}
 use Rattle.meaning_list_laws.specs.Lists.{count-none, count-present, count-absent, member-counted, member-none, member-one, member-nth, member-firsts, all-member}
 use Rattle.meaning_split_laws.specs.Walked.{faces-there}
-use Rattle.meaning_isolation.specs.Laws.{in-front, joined-from, joined-in, map-in}
+use Rattle.meaning_isolation.specs.Laws.{joined-from, joined-in}
 use Rattle.meaning_shift.specs.Sums.{count-joined}
 use Rattle.meaning_shift.specs.Moving.{Movable, oneOf, outside}
+use Rattle.meaning_shift.specs.Met.{fin-edge-walked}
 
 -- the fins in the loops of the solid sides, side by side
 abbrev pub shellFins : Model → ℕ → List ℕ
@@ -145,13 +146,7 @@ module _ (x : Limits) (m : Model) (b r : ℕ) (k : Movable x m b r) where
         member-counted i (rim m f) (omega arith)
 
     pub edge-walked : (i : ℕ) → member i (rim m f) ≡ true → member (fin m i .edge) (edgeWalk m b) ≡ true
-    unfolding edgeWalk
-    edge-walked i g =
-        member-firsts (fin m i .edge) (joined (faceEdges m) (faceWalk m b) ++ joined (λ s. shell m s .wireEdges) (shellsOf m b))
-        ∙ in-front (fin m i .edge) (joined (faceEdges m) (faceWalk m b)) (joined (λ s. shell m s .wireEdges) (shellsOf m b))
-        (joined-in (faceEdges m) (faceWalk m b) f (fin m i .edge) h
-        (map-in (λ i. fin m i .edge) (joined (λ l. loop m l .fins) (face m f .loops)) i
-        (joined-in (λ l. loop m l .fins) (face m f .loops) (getD (face m f .loops) 0 0) i loop-listed g)))
+    edge-walked i g = fin-edge-walked m b f (getD (face m f .loops) 0 0) i h loop-listed g
 
     -- a fin of a face of the body is one of the solid sides'
     pub body-fin : (i : ℕ) → member i (rim m f) ≡ true → member i (bodyFins m b) ≡ true

@@ -36,12 +36,12 @@ sum-on-grid x y p q h =
     (add-exactly x y 4 (sixteenths x) (sixteenths y) (omega arith) (grid-exactly x p) (grid-exactly y q)
     (omega (arith, size-sum (sixteenths x) (sixteenths y), sixteenths-size x, sixteenths-size y)))
 
-record OnGrid (p : Point3) : Type 0 where
-  x : onGrid (p .x) ≡ true
-  y : onGrid (p .y) ≡ true
-  z : onGrid (p .z) ≡ true
+pub record OnGrid (p : Point3) : Type 0 where
+  pub x : onGrid (p .x) ≡ true
+  pub y : onGrid (p .y) ≡ true
+  pub z : onGrid (p .z) ≡ true
 
-on-grid : (p : Point3) → gridPoint p ≡ true → OnGrid p
+pub on-grid : (p : Point3) → gridPoint p ≡ true → OnGrid p
 on-grid p h =
     let last = and-both (onGrid (p .x) && onGrid (p .y)) (onGrid (p .z)) h in
     let first = and-both (onGrid (p .x)) (onGrid (p .y)) (last .0) in

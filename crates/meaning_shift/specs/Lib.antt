@@ -2,6 +2,7 @@ pub mod Integers
 pub mod Corners
 pub mod Sums
 pub mod Moving
+pub mod Met
 pub mod Fins
 pub mod Exchange
 pub mod Sides

@@ -14,17 +14,18 @@ use Rattle.geom_lines_planes.specs.Refuse.{_unless_, _then_}
 use Rattle.meaning.specs.Refuse.{_if_}
 use Rattle.meaning.specs.Lists.{member, joined, listed, the, isSome, is}
 use Rattle.meaning.specs.Model.{Model, Limits, Edge, Sense, positive, negative, changed, body, region, shell, face, fin, edge, pointOf}
-use Rattle.meaning.specs.Walks.{shellsOf, faceWalk, facesRefusal, edgeWalk, edgesRefusal, vertexWalk, edgeVertices, directed, endsOf}
+use Rattle.meaning.specs.Walks.{faceWalk, facesRefusal, edgeWalk, edgesRefusal, vertexWalk, edgeVertices, directed, endsOf}
 use Rattle.meaning.specs.Faults.{meetsNext}
 use Rattle.meaning.specs.Inquire.{flatFace, straightEdge, requirePolyhedral, Side, sidesOf, solidSides, rim, startOf, sideRefusal, sidesRefusal, volumeRefusal}
 use Rattle.meaning.specs.Formed.{closed, loopCloses}
 use Rattle.meaning_list_laws.specs.Tests.{and-both, same-true}
-use Rattle.meaning_list_laws.specs.Lists.{member-head, member-tail, member-firsts, all-member}
-use Rattle.meaning_isolation.specs.Laws.{in-front, behind, joined-in, the-listed}
+use Rattle.meaning_list_laws.specs.Lists.{member-head, member-tail, all-member}
+use Rattle.meaning_isolation.specs.Laws.{in-front, behind, the-listed}
 use Rattle.meaning_sheets.specs.Sheets.{Corner, corner, wholePolygon, sidePoints, wholeSide, wholeSum, sixVolume, gridPoint, gridPoints, gridSides, triangles, stoneRefusal}
 use Rattle.meaning_shift.specs.Corners.{plusC, lever, chain, around, polygon-moved}
 use Rattle.meaning_shift.specs.Sums.{sumOver, sum-append}
 use Rattle.meaning_shift.specs.Moving.{Movable, outside, placed, Shifted}
+use Rattle.meaning_shift.specs.Met.{end-walked}
 use Rattle.meaning_shift.specs.Fins.{shellFins, regionFins, bodyFins, not-front, region-below, shell-names, face-walked, loop-below, edge-walked}
 use Rattle.meaning_shift.specs.Exchange.{startCorner, endCorner, finLever, fins-add-nothing}
 
@@ -149,13 +150,10 @@ module _ (m n : Model) (t : Corner) where
 
 module _ (x : Limits) (m : Model) (b r : ℕ) (k : Movable x m b r) (t : Corner) (point : ℕ → Point3) (d : Shifted m b t point) where
   start-walked : (f i : ℕ) → member f (faceWalk m b) ≡ true → member i (rim m f) ≡ true → member (the (startOf m i)) (vertexWalk m b) ≡ true
-  unfolding vertexWalk
   start-walked f i h g =
       let e = edge-walked x m b r k f h i g in
       let ends = and-both (isSome (edge m (fin m i .edge) .start)) (isSome (edge m (fin m i .edge) .end)) (all-member (λ e. isSome (edge m e .start) && isSome (edge m e .end)) (edgeWalk m b) (fin m i .edge) (k .ends) e) in
-      member-firsts (the (startOf m i)) (joined (λ e. edgeVertices (edge m e)) (edgeWalk m b) ++ joined (λ s. shell m s .acornVertices) (shellsOf m b))
-      ∙ in-front (the (startOf m i)) (joined (λ e. edgeVertices (edge m e)) (edgeWalk m b)) (joined (λ s. shell m s .acornVertices) (shellsOf m b))
-      (joined-in (λ e. edgeVertices (edge m e)) (edgeWalk m b) (fin m i .edge) (the (startOf m i)) e (start-vertex (fin m i .sense) (edge m (fin m i .edge)) (ends .0) (ends .1)))
+      end-walked m b (fin m i .edge) (the (startOf m i)) e (start-vertex (fin m i .sense) (edge m (fin m i .edge)) (ends .0) (ends .1))
 
   point-moved : (v : ℕ) → member v (vertexWalk m b) ≡ true → corner (pointOf (placed m b point) v) ≡ plusC (corner (pointOf m v)) t
   unfolding placed changed

@@ -11,5 +11,6 @@ pub mod mending;
 pub mod models;
 pub mod setting;
 pub mod sheets;
+pub mod slabs;
 pub mod spans;
 pub mod walking;

@@ -14,11 +14,14 @@ use office_measures::check_body;
 use office_measures::fit_to_saw;
 use office_sheets::TakenIn;
 use office_sheets::taken;
+use office_slabs::body_profile;
 use office_views::body_edges;
 use office_views::body_faces;
 use office_views::body_vertices;
 use replay_digits::bits_of;
 use sheet_words::StoneSheet;
+use slab_profile::Profile;
+use slab_rules::Verdict;
 use split_edge::split_line_edge;
 use station_answers::BoxFound;
 use station_answers::Checked;
@@ -187,6 +190,50 @@ fn whole(words: &[u32; 8379], reals: &[f64; 158]) {
     io::write_all(1, b"\n");
 }
 
+fn print_area(n: u64) {
+    io::write_all(1, b" ");
+    io::print_decimal(1, n);
+}
+
+fn print_areas(areas: &[u64]) {
+    let mut i = 0;
+    while i < areas.len() {
+        print_area(areas[i]);
+        i += 1;
+    }
+}
+
+fn print_broken(v: Verdict) {
+    io::write_all(1, b" rule ");
+    io::print_decimal(1, v.rule as u64);
+    io::write_all(1, b" broken by ");
+    io::print_decimal(1, v.entity);
+}
+
+fn print_profile(answer: Profile) {
+    match answer {
+        Profile::Accepted(total) => print_area(total),
+        Profile::Broken(v) => print_broken(v),
+        Profile::Refused(n) => print_refusal(n),
+    }
+}
+
+// Body 0 as a slab: the area in all, then that of each face.
+fn slab_into(words: &[u32], reals: &[f64], areas: &mut [u64]) {
+    let mut marks = [0u8; 6];
+    let mut seen = [0u8; 13];
+    io::write_all(1, b"slab:");
+    print_profile(body_profile(&ROOM, words, reals, OFFICE, 0, &mut marks, &mut seen, areas));
+    io::write_all(1, b"; faces");
+    print_areas(areas);
+    io::write_all(1, b"\n");
+}
+
+fn slab(words: &[u32; 8379], reals: &[f64; 158]) {
+    let mut areas = [0u64; 6];
+    slab_into(&words[..], &reals[..], &mut areas);
+}
+
 fn print_box(answer: BoxFound) {
     match answer {
         BoxFound::Is(b) => {
@@ -350,6 +397,7 @@ fn main() {
     walks(&words, &reals);
     volume(&words, &reals);
     whole(&words, &reals);
+    slab(&words, &reals);
     corners(&words, &reals);
     splits(&mut words, &mut reals);
     trial_stone(&ROOM, &mut words, &mut reals);

@@ -9,6 +9,7 @@ use calls::layout::{LARGEST, Lent};
 use calls::mends::{self, MARKS, Mend, apply};
 use calls::offices::Station;
 use calls::sheets::Stone;
+use calls::slabs;
 use calls::stl::{self, file};
 use calls::stl_files::{self, Around, sphere};
 use calls::stl_read;
@@ -91,6 +92,20 @@ fn whole_number(model: &Model, names: &Names, lent: &Lent) {
         micro(ours),
         ours.as_secs_f64() / volume.as_secs_f64()
     );
+}
+
+/// The slab profile, beside the comparison's: all rules are asked of both, and prisms break the first.
+fn profile(lent: &Lent) {
+    let ask = slabs::Ask {
+        office: 0,
+        body: 0,
+        short: false,
+        slots: [0; 3],
+        areas: vec![0; 512],
+    };
+    let request = slabs::Rule::REQUEST;
+    let rust = time(|| drop(black_box(slabs::answer(lent, &ask, &request))));
+    row("slab profile", rust, time(|| drop(black_box(ask.ours(lent, 0, 0)))));
 }
 
 /// The body as binary STL (W-209), on the same model with its points made binary32 values: beside the writer in Rust that the comparison goes by, which asks the Rust's
@@ -315,6 +330,7 @@ fn larger(model: &Model, names: &Names, lent: &Lent) {
     row("volume", rust, time(|| drop(black_box(lent.volume(0, 0)))));
     whole_number(model, names, lent);
     drawing(model, names, lent);
+    profile(lent);
     for (what, geometry) in [("report, topology", false), ("report, 3 samples", true)] {
         let options = CheckOptions { geometry, edge_samples: 3 };
         let rust = time(|| drop(black_box(check_body(model, body, &options))));

@@ -1,0 +1,3 @@
+pub mod Steps
+pub mod Sizes
+pub mod Verdicts
