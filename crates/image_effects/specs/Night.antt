@@ -23,7 +23,7 @@ use Rattle.image_effects.specs.Fits.{machine-sound, calls-double}
 use Rattle.image_effects.specs.Statements.{image-taken, image-read}
 use Rattle.meaning_split_laws.specs.Terms.{itself, splitEdges, Restored, eulerNumber}
 use Rattle.meaning_split_laws.specs.Statements.{stays-well-formed, empty-report-stays, euler-number-stays, gives-back, gives-back-any}
-use Rattle.split_place.specs.SplitNumber.{limits}
+use Rattle.memory_layout.specs.Limits.{limits}
 use Rattle.split_edge.specs.After.{splitAnswer}
 use Rattle.split_effect.specs.Statements.{HoldsModel, same-model}
 use Rattle.station_answers.specs.declared.Split.the-variants.{Is, Refused}

@@ -11,7 +11,7 @@ use Rattle.memory_layout.specs.Names.{BODIES, REGIONS, SHELLS, FACES, LOOPS, ED
 use Rattle.memory_layout.specs.Layout.{wordStrides, largestTables, word, real}
 use Rattle.memory_layout.specs.Readable.{ownOk, recordOk}
 use Rattle.memory_layout.specs.Entries.{listLimits}
-use Rattle.split_place.specs.SplitNumber.{limits}
+use Rattle.memory_layout.specs.Limits.{limits}
 
 -- the limits of the ten tables, and of the eight lists, by number
 abbrev pub tablesOf : Limits → List ℕ

@@ -34,7 +34,8 @@ use Rattle.inquire_volume.specs.Answers.{volumeNumber, volumeAnswer}
 use Rattle.check_reasons.specs.Log.{faultsWords}
 use Rattle.check_report.specs.Calls.{seenCounts, firstOf, told, reportOn, checkNumber, checkAnswer, fitAnswer}
 use Rattle.check_report.specs.declared.FirstFault.the-variants as Firsts
-use Rattle.split_place.specs.SplitNumber.{limits, officeSplitNumber}
+use Rattle.memory_layout.specs.Limits.{limits}
+use Rattle.split_place.specs.SplitNumber.{officeSplitNumber}
 use Rattle.split_edge.specs.After.{officeSplitAnswer}
 use Rattle.station_answers.specs.declared.BoxFound.the-variants as Boxes
 use Rattle.station_answers.specs.declared.Volume.the-variants as Volumes

@@ -45,7 +45,8 @@ use Rattle.station_answers.specs.declared.Checked.the-variants as Checks
 use Rattle.station_answers.specs.declared.Sawable.the-variants as Saws
 use Rattle.inquire_box.specs.Answers.{boxNumber, boxAnswer}
 use Rattle.inquire_volume.specs.Answers.{volumeNumber, volumeAnswer}
-use Rattle.split_place.specs.SplitNumber.{limits, splitNumber}
+use Rattle.memory_layout.specs.Limits.{limits}
+use Rattle.split_place.specs.SplitNumber.{splitNumber}
 use Rattle.split_edge.specs.After.{splitAnswer}
 use Rattle.check_reasons.specs.Log.{faultsWords}
 use Rattle.check_report.specs.Calls.{asked, seenCounts, reportOn, checkNumber, checkAnswer, checkWords, fitAnswer}

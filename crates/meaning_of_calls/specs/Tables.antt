@@ -19,7 +19,7 @@ use Rattle.memory_layout.specs.Readable.{ownOk, recordOk, readable}
 use Rattle.memory_layout.specs.Entries.{listOf}
 use Rattle.memory_layout.specs.Fit.{Fit, Lists}
 use Rattle.memory_layout.specs.Laws.{fit-of, lists-of, listed-le}
-use Rattle.split_place.specs.SplitNumber.{limits}
+use Rattle.memory_layout.specs.Limits.{limits}
 
 own-or-none : (b : Bool) (t : Float) → (b || toleranceOk (Own t)) ≡ true → toleranceOk (cond b Session (Own t)) ≡ true
 own-or-none true t h = refl

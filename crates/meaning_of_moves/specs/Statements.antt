@@ -18,7 +18,7 @@ use Rattle.meaning_of_calls.specs.Sheets.{take-same, sheet-same}
 use Rattle.memory_layout.specs.Names.{FACES}
 use Rattle.memory_layout.specs.Decode.{decode}
 use Rattle.memory_layout.specs.Readable.{readable}
-use Rattle.split_place.specs.SplitNumber.{limits}
+use Rattle.memory_layout.specs.Limits.{limits}
 use Rattle.split_sequences.specs.Sequence.{callsWords, callsReals}
 use Rattle.split_sequences.specs.Statements.{calls-model}
 use Rattle.split_offices.specs.Calls.{officeCallsWords, officeCallsReals, heard}

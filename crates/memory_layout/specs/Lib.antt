@@ -7,3 +7,4 @@ pub mod Fit
 pub mod Laws
 pub mod TableRows
 pub mod Laid
+pub mod Limits

@@ -30,7 +30,8 @@ use Rattle.split_fins.specs.Laws.{counts-listed}
 use Rattle.split_fin_tests.specs.FinTests.{cutAt, finTest}
 use Rattle.split_place.specs.Place.{pointTest, wireTest, ownedBy, loopTest, tablesTest, capacityTest}
 use Rattle.split_place.specs.Facts.{Owned}
-use Rattle.split_place.specs.SplitNumber.{limits, splitNumber, officeSplitNumber, edgeRow, placeRow, roomRow}
+use Rattle.memory_layout.specs.Limits.{limits}
+use Rattle.split_place.specs.SplitNumber.{splitNumber, officeSplitNumber, edgeRow, placeRow, roomRow}
 use Rattle.split_place.specs.Laws.{Opened, opened, owned, place-rows, room-rows, split-rows, once-at}
 use Rattle.split_pieces.specs.Pieces.{finWord, finWords}
 use Rattle.split_pieces.specs.Facts.{Slots}

@@ -14,7 +14,8 @@ use Rattle.memory_layout.specs.Readable.{readable}
 use Rattle.memory_layout.specs.Entries.{listOf}
 use Rattle.memory_writes.specs.Change.{SameTable, SameModel}
 use Rattle.memory_writes.specs.Kept.{readable-of}
-use Rattle.split_place.specs.SplitNumber.{limits, splitNumber}
+use Rattle.memory_layout.specs.Limits.{limits}
+use Rattle.split_place.specs.SplitNumber.{splitNumber}
 use Rattle.split_edge.specs.After.{splitWords, splitReals}
 use Rattle.split_edge.specs.Rooms.{accepted}
 use Rattle.split_effect.specs.Reads.{loop-place, shell-place, edge-place, slot-words, slot-floats}

@@ -10,7 +10,8 @@ use Rattle.meaning_split_laws.specs.Rows.{Step, _when_}
 use Rattle.meaning_office_laws.specs.Terms.{officeRows}
 use Rattle.memory_layout.specs.Decode.{decode}
 use Rattle.memory_layout.specs.Readable.{readable}
-use Rattle.split_place.specs.SplitNumber.{limits, officeSplitNumber}
+use Rattle.memory_layout.specs.Limits.{limits}
+use Rattle.split_place.specs.SplitNumber.{officeSplitNumber}
 use Rattle.split_edge.specs.After.{officeSplitWords, officeSplitReals}
 
 -- each call has the words and the floats that the one before it left, whoever made it and whatever it answered

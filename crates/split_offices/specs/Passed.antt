@@ -19,7 +19,7 @@ use Rattle.meaning_office_laws.specs.Passed.{passed, passed-after, above-after}
 use Rattle.memory_layout.specs.Decode.{decode}
 use Rattle.memory_layout.specs.Readable.{readable}
 use Rattle.memory_writes.specs.Change.{SameModel}
-use Rattle.split_place.specs.SplitNumber.{limits}
+use Rattle.memory_layout.specs.Limits.{limits}
 use Rattle.split_edge.specs.After.{splitWords, splitReals, officeSplitWords, officeSplitReals}
 use Rattle.split_effect.specs.Statements.{split-model}
 use Rattle.split_sequences.specs.Same.{same-trans, same-in, same-formed}

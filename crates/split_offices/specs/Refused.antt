@@ -14,7 +14,8 @@ use Rattle.meaning_office_laws.specs.Terms.{officeRows}
 use Rattle.meaning_office_laws.specs.Refused.{refused-where, refused-only, accepted-where, accepted-only}
 use Rattle.memory_layout.specs.Decode.{decode}
 use Rattle.memory_layout.specs.Readable.{readable}
-use Rattle.split_place.specs.SplitNumber.{limits, officeSplitNumber}
+use Rattle.memory_layout.specs.Limits.{limits}
+use Rattle.split_place.specs.SplitNumber.{officeSplitNumber}
 use Rattle.split_sequences.specs.Refused.{passing-says, nine-passes, nine-says, only-nine}
 use Rattle.split_offices.specs.Calls.{officeCallRows}
 

@@ -14,7 +14,8 @@ use Rattle.meaning.specs.Formed.{topologicalReport, emptyReport, hasEdge}
 use Rattle.meaning.specs.Offices.{foreign, edgeFor, officeModelAfter, OfficeCut, officeAfterAll}
 use Rattle.memory_layout.specs.Decode.{decode}
 use Rattle.memory_layout.specs.Readable.{readable}
-use Rattle.split_place.specs.SplitNumber.{limits, officeSplitNumber}
+use Rattle.memory_layout.specs.Limits.{limits}
+use Rattle.split_place.specs.SplitNumber.{officeSplitNumber}
 use Rattle.station_answers.specs.declared.EdgeSplit.{EdgeSplit}
 use Rattle.station_answers.specs.declared.Split.the-variants.{Is, Refused}
 use Rattle.split_edge.specs.After.{splitAnswer, splitWords, splitReals, officeSplitAnswer, officeSplitWords, officeSplitReals}

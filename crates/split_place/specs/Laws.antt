@@ -33,7 +33,8 @@ use Rattle.split_fin_tests.specs.FinTests.{cutAt, onceEach, finTest}
 use Rattle.split_fin_tests.specs.Laws.{fins-tests}
 use Rattle.split_place.specs.Place.{fractionOk, along, cutOf, toleranceAt, pointTest, wireTest, ownedBy, loopTest, tablesTest, capacityTest}
 use Rattle.split_place.specs.Facts.{Owned}
-use Rattle.split_place.specs.SplitNumber.{limits, edgeRow, placeRow, roomRow}
+use Rattle.memory_layout.specs.Limits.{limits}
+use Rattle.split_place.specs.SplitNumber.{edgeRow, placeRow, roomRow}
 
 -- ---- one entry more
 

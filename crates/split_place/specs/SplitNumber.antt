@@ -7,34 +7,9 @@ use Rattle.meaning.specs.Model.{Model, Limits}
 use Rattle.meaning.specs.Refuse.{firstRefusal}
 use Rattle.meaning.specs.Split.{test1, test2, test3, test4, test5, test6, test7, test8, test9, test10, test11, test12, test13, splitRefusal}
 use Rattle.meaning.specs.Offices.{officeSplitRefusal}
-use Rattle.memory_layout.specs.Names.{BODIES, REGIONS, SHELLS, FACES, LOOPS, FINS, EDGES, VERTICES, CURVES, SURFACES}
-use Rattle.memory_layout.specs.Layout.{word}
+use Rattle.memory_layout.specs.Limits.{limits}
 use Rattle.memory_layout.specs.Decode.{decode}
 use Rattle.memory_layout.specs.Readable.{readable}
-
--- 01, "capacity is what is lent"; "Lists: body 16 regions; .."
-abbrev pub limits : List ℕ → Limits
-limits room =
-    record {
-      bodies = word room BODIES;
-      regions = word room REGIONS;
-      shells = word room SHELLS;
-      faces = word room FACES;
-      loops = word room LOOPS;
-      fins = word room FINS;
-      edges = word room EDGES;
-      vertices = word room VERTICES;
-      curves = word room CURVES;
-      surfaces = word room SURFACES;
-      bodyRegions = 16;
-      regionShells = 16;
-      shellFaces = 512;
-      shellWireEdges = 256;
-      shellAcornVertices = 64;
-      faceLoops = 16;
-      loopFins = 1024;
-      edgeFins = 8;
-    }
 
 -- 9, then the thirteen tests
 unfoldable pub splitNumber : List ℕ → List ℕ → List Float → ℕ → Float → ℕ

@@ -6,7 +6,7 @@ use lib.ListN.{drop}
 use lib.Ieee.{Float}
 use Rattle.memory_layout.specs.Decode.{decode}
 use Rattle.memory_layout.specs.Readable.{readable}
-use Rattle.split_place.specs.SplitNumber.{limits}
+use Rattle.memory_layout.specs.Limits.{limits}
 use Rattle.meaning_split_laws.specs.Rows.{Step, _when_, splitRows}
 
 -- 9 has row 0, which 01's rows leave free

@@ -10,7 +10,8 @@ use Rattle.meaning.specs.Formed.{WellFormed}
 use Rattle.memory_layout.specs.Decode.{decode}
 use Rattle.memory_layout.specs.Readable.{readable}
 use Rattle.memory_writes.specs.Change.{SameModel}
-use Rattle.split_place.specs.SplitNumber.{limits, splitNumber}
+use Rattle.memory_layout.specs.Limits.{limits}
+use Rattle.split_place.specs.SplitNumber.{splitNumber}
 use Rattle.split_edge.specs.After.{splitWords, splitReals}
 use Rattle.meaning_split_laws.specs.Terms.{splitEdges}
 use Rattle.meaning_split_laws.specs.Kept.{split-keeps}

@@ -8,7 +8,8 @@ use lib.ListN.{getD, drop}
 use lib.Ieee.{Float}
 use Rattle.memory_layout.specs.Decode.{decode}
 use Rattle.memory_layout.specs.Readable.{readable}
-use Rattle.split_place.specs.SplitNumber.{limits, splitNumber}
+use Rattle.memory_layout.specs.Limits.{limits}
+use Rattle.split_place.specs.SplitNumber.{splitNumber}
 use Rattle.meaning_split_laws.specs.Rows.{Step, _when_, splitRows, never, Passes, Says, RefusedAt}
 use Rattle.meaning_split_laws.specs.Refusals.{refused-where, refused-only, accepted-where, accepted-only}
 use Rattle.split_sequences.specs.CallRows.{callRows}

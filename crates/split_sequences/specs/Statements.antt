@@ -15,7 +15,8 @@ use Rattle.memory_layout.specs.Layout.{word}
 use Rattle.memory_layout.specs.Decode.{decode}
 use Rattle.memory_layout.specs.Readable.{readable}
 use Rattle.memory_writes.specs.Change.{SameModel}
-use Rattle.split_place.specs.SplitNumber.{limits, splitNumber}
+use Rattle.memory_layout.specs.Limits.{limits}
+use Rattle.split_place.specs.SplitNumber.{splitNumber}
 use Rattle.station_answers.specs.declared.EdgeSplit.{EdgeSplit}
 use Rattle.station_answers.specs.declared.Split.the-variants.{Is, Refused}
 use Rattle.split_edge.specs.After.{splitAnswer, splitWords, splitReals}

@@ -22,7 +22,8 @@ ghost use mathlib.Core.Path.{_≡_};
 ghost use Rattle.meaning.specs.Split.{splitRefusal};
 ghost use Rattle.memory_layout.specs.Decode.{decode};
 ghost use Rattle.memory_layout.specs.Fit.{Fit};
-ghost use Rattle.split_place.specs.SplitNumber.{limits, edgeRow, placeRow, roomRow, officeSplitNumber};
+ghost use Rattle.memory_layout.specs.Limits.{limits};
+ghost use Rattle.split_place.specs.SplitNumber.{edgeRow, placeRow, roomRow, officeSplitNumber};
 
 // Tests 1 to 8.
 fn edge_refusal(room: &[usize; 10], words: &[u32], reals: &[f64], edge: usize, fraction: f64) -> u32

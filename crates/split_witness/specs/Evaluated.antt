@@ -10,7 +10,7 @@ use Rattle.meaning.specs.Walks.{edgeWalk}
 use Rattle.meaning.specs.Split.{splitRefusal, modelAfter, Cut}
 use Rattle.meaning.specs.Formed.{wellFormed}
 use Rattle.meaning.specs.Stone.{stone}
-use Rattle.split_place.specs.SplitNumber.{limits}
+use Rattle.memory_layout.specs.Limits.{limits}
 use Rattle.meaning_split_laws.specs.Terms.{splitEdges}
 use Rattle.split_witness.specs.Stone.{stoneRoom}
 

@@ -12,7 +12,7 @@ use Rattle.meaning.specs.Split.{splitRefusal, modelAfter, afterAll}
 use Rattle.meaning.specs.Formed.{WellFormed, hasEdge}
 use Rattle.meaning.specs.Stone.{stone}
 use Rattle.memory_layout.specs.Decode.{decode}
-use Rattle.split_place.specs.SplitNumber.{limits}
+use Rattle.memory_layout.specs.Limits.{limits}
 use Rattle.station_answers.specs.declared.Split.the-variants.{Is, Refused}
 use Rattle.split_edge.specs.After.{splitAnswer, splitWords, splitReals}
 use Rattle.meaning_split_laws.specs.Terms.{OneMore}

@@ -8,7 +8,7 @@ use Rattle.memory_layout.specs.Layout.{word}
 use Rattle.memory_layout.specs.Decode.{decode}
 use Rattle.memory_layout.specs.Readable.{readable}
 use Rattle.memory_writes.specs.Put.{unlessRefused}
-use Rattle.split_place.specs.SplitNumber.{limits}
+use Rattle.memory_layout.specs.Limits.{limits}
 use Rattle.edit_core.specs.declared.Inserted.{Inserted}
 use Rattle.edit_core.specs.declared.Inserted.the-variants.{At, Refused}
 use Rattle.stl_body.specs.Read.{Mesh, stlTriangles, meshOf, readRefusal}

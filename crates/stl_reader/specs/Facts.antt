@@ -15,7 +15,7 @@ use Rattle.memory_layout.specs.Names.{BODIES}
 use Rattle.memory_writes.specs.Put.{unlessRefused}
 use Rattle.edit_core.specs.declared.Inserted.{Inserted}
 use Rattle.edit_core.specs.declared.Inserted.the-variants.{At, Refused}
-use Rattle.split_place.specs.SplitNumber.{limits}
+use Rattle.memory_layout.specs.Limits.{limits}
 use Rattle.stl_body.specs.Read.{Mesh, stlTriangles, lengthFits, corners, allFinite, allApart, hasRoom}
 use Rattle.stl_body.specs.Meshes.{Ranged}
 use Rattle.stl_rows.specs.Rows.{readWords, readReals}

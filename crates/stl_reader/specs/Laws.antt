@@ -20,7 +20,7 @@ use Rattle.memory_layout.specs.Readable.{readable}
 use Rattle.memory_layout.specs.Laws.{fit-of}
 use Rattle.memory_writes.specs.Put.{unlessRefused}
 use Rattle.memory_writes.specs.Over.{length-over}
-use Rattle.split_place.specs.SplitNumber.{limits}
+use Rattle.memory_layout.specs.Limits.{limits}
 use Rattle.image_laws.specs.Numbers.{Bytes, below-drop, number-below}
 use Rattle.stl_body.specs.Meshes.{corners-length}
 use Rattle.stl_body.specs.Statements.{triangles-length}

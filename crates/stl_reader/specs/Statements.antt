@@ -12,7 +12,7 @@ use Rattle.memory_layout.specs.Readable.{readable}
 use Rattle.memory_layout.specs.Laws.{fit-of}
 use Rattle.memory_writes.specs.Change.{SameModel}
 use Rattle.memory_writes.specs.Kept.{readable-of}
-use Rattle.split_place.specs.SplitNumber.{limits}
+use Rattle.memory_layout.specs.Limits.{limits}
 use Rattle.stl_body.specs.Read.{readRefusal, modelAfterRead}
 use Rattle.stl_reading_effects.specs.Statements.{accepted-model, accepted-fit}
 use Rattle.stl_reader.specs.Answers.{readStlNumber, readStlWords, readStlReals}

@@ -15,7 +15,7 @@ use Rattle.memory_layout.specs.Layout.{word}
 use Rattle.memory_layout.specs.Decode.{decode}
 use Rattle.memory_layout.specs.Fit.{Fit}
 use Rattle.memory_layout.specs.Laws.{capacity-le}
-use Rattle.split_place.specs.SplitNumber.{limits}
+use Rattle.memory_layout.specs.Limits.{limits}
 use Rattle.stl_body.specs.Read.{Step, step, Mesh, finsOn, roomTests, hasRoom}
 use Rattle.stl_body.specs.Laws.{fins-length}
 use Rattle.stl_body.specs.Meshes.{endsBelow, ends-both, Ranged}

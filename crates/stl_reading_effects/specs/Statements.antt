@@ -19,7 +19,7 @@ use Rattle.memory_layout.specs.Fit.{Fit}
 use Rattle.memory_writes.specs.Put.{newWords}
 use Rattle.memory_writes.specs.Change.{SameTable, SameModel}
 use Rattle.memory_writes.specs.Kept.{readable-of}
-use Rattle.split_place.specs.SplitNumber.{limits}
+use Rattle.memory_layout.specs.Limits.{limits}
 use Rattle.stl_body.specs.Read.{step, Mesh, finsOn, newBody, newRegion, newShell, newFace, newLoop, newFin, newEdge, newVertex, stlTriangles, meshOf, built, hasRoom, readRefusal, modelAfterRead}
 use Rattle.stl_body.specs.Meshes.{mesh-ranged}
 use Rattle.stl_body.specs.Statements.{accepted, accepted-is}

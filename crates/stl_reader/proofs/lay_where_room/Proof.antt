@@ -9,7 +9,7 @@ use Rattle.meaning.specs.Lists.{allBelow}
 use Rattle.memory_layout.specs.Layout.{wordStrides}
 use Rattle.memory_layout.specs.Decode.{decode}
 use Rattle.memory_layout.specs.Laws.{before-tables}
-use Rattle.split_place.specs.SplitNumber.{limits}
+use Rattle.memory_layout.specs.Limits.{limits}
 use Rattle.stl_body.specs.Read.{hasRoom}
 use Rattle.stl_numbers.specs.Numbered.{few}
 use Rattle.stl_reading_effects.specs.Room.{ready}
