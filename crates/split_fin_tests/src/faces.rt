@@ -29,7 +29,7 @@ pub struct Cut {
 }
 
 // Further off than the tolerance 1, unresolved 7.
-fn within(sign: Sign) -> u32
+pub fn within(sign: Sign) -> u32
     ensures { λ r. ⌜ r ≡ within sign ⌝ }
 {
     match sign {

@@ -32,7 +32,7 @@ fn gain(room: &[usize; 10], words: &[u32], fins: &[u32], owner: usize) -> usize
 }
 
 // The loop of fin k.
-fn loop_fits(room: &[usize; 10], words: &[u32], fins: &[u32], k: usize) -> bool
+pub fn loop_fits(room: &[usize; 10], words: &[u32], fins: &[u32], k: usize) -> bool
     requires { ⌜ Lists (now room) (now words) ⌝ }
     requires { ⌜ Owned (now room) (now words) (now fins) ⌝ }
     requires { ⌜ k < length (now fins) ⌝ }

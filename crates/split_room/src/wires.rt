@@ -12,7 +12,7 @@ ghost use Rattle.memory_layout.specs.Fit.{Lists};
 ghost use Rattle.split_place.specs.Place.{wireTest};
 
 // How often x is an entry.
-fn count_of(s: &[u32], x: usize) -> usize
+pub fn count_of(s: &[u32], x: usize) -> usize
     ensures { λ r. ⌜ r ≡ count x (now (s .entry)) ⌝ }
 {
     let mut n: usize = 0;
@@ -25,7 +25,7 @@ fn count_of(s: &[u32], x: usize) -> usize
 }
 
 // One shell: whether it has room for the new wire edge, or else whether it lists the edge at most once.
-fn wires_ok(room: &[usize; 10], words: &[u32], edge: usize, fit: bool, shell: usize) -> bool
+pub fn wires_ok(room: &[usize; 10], words: &[u32], edge: usize, fit: bool, shell: usize) -> bool
     requires { ⌜ Lists (now room) (now words) ⌝ }
     requires { ⌜ shell < word (now words) SHELLS ⌝ }
     ensures { λ r. ⌜ r ≡ wireTest (now (room .entry)) (now (words .entry)) edge fit shell ⌝ }

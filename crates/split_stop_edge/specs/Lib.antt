@@ -1,0 +1,2 @@
+pub mod EdgeRows
+pub mod Laws

@@ -1,0 +1,3 @@
+pub mod PlaceRows
+pub mod FinRows
+pub mod Laws

@@ -1,0 +1,2 @@
+pub mod RoomRows
+pub mod Laws

@@ -1,0 +1,3 @@
+pub mod SplitStop
+pub mod Laws
+pub mod Statements
