@@ -1,6 +1,7 @@
 -- What the code tells of rows 12 and 13 is what `meaning_stops` has. Assumes nothing.
 use Prim.Native.Nat.{ℕ, _+_}
 use mathlib.Core.Path.{_≡_, refl, sym, ap, ap₂, _∙_}
+use mathlib.Core.Bool.{true, false}
 use mathlib.Core.List.{List, [], _∷_, _++_, map}
 use lib.Dec.{leb}
 use lib.ListN.{length}
@@ -20,7 +21,7 @@ use Rattle.memory_layout.specs.Limits.{limits}
 use Rattle.split_stop_parts.specs.declared.Stop.{Stop}
 use Rattle.split_stop_parts.specs.Told.{told, tellAt, firstTold, rowTold, tell}
 use Rattle.split_stop_parts.specs.Laws.{first-assoc, row-append, chained, row-chained, rows-first, rows-one}
-use Rattle.split_stop_room.specs.RoomRows.{roomRows, wirePart, slotPart, loopPart, tablesTold}
+use Rattle.split_stop_room.specs.RoomRows.{roomRows, shellPart, loopPart, tablesTold}
 
 module _ (room w : List ℕ) (x : List Float) (e : ℕ) where
   abbrev m : Model
@@ -29,12 +30,12 @@ module _ (room w : List ℕ) (x : List Float) (e : ℕ) where
   abbrev fins : List ℕ
   fins = listOf room w 7 e
 
-  wires-told : rowTold 12 (row12 m e) ≡ rowTold 12 (map (wirePart room w e) (run 0 (word w 2)))
-  unfolding wirePart wireTest listOf decode
+  wires-told : rowTold 12 (row12 m e) ≡ rowTold 12 (map (shellPart room w e false 1 1) (run 0 (word w 2)))
+  unfolding shellPart wireTest listOf decode
   wires-told = refl
 
-  slots-told : rowTold 13 (row13-shells (limits room) m e) ≡ rowTold 13 (map (slotPart room w e) (run 0 (word w 2)))
-  unfolding slotPart wireTest listOf decode
+  slots-told : rowTold 13 (row13-shells (limits room) m e) ≡ rowTold 13 (map (shellPart room w e true 6 8) (run 0 (word w 2)))
+  unfolding shellPart wireTest listOf decode
   slots-told = refl
 
   loops-told : rowTold 13 (row13-loops (limits room) m e) ≡ rowTold 13 (map (loopPart room w fins) fins)
@@ -54,8 +55,8 @@ module _ (room w : List ℕ) (x : List Float) (e : ℕ) where
   tables-told = row-chained 13 tables
 
   pub room-told : told (firstStop (roomRows (limits room) m e))
-      ≡ firstTold (rowTold 12 (map (wirePart room w e) (run 0 (word w 2))))
-      (firstTold (tablesTold room w e (length fins)) (firstTold (rowTold 13 (map (loopPart room w fins) fins)) (rowTold 13 (map (slotPart room w e) (run 0 (word w 2))))))
+      ≡ firstTold (rowTold 12 (map (shellPart room w e false 1 1) (run 0 (word w 2))))
+      (firstTold (tablesTold room w e (length fins)) (firstTold (rowTold 13 (map (loopPart room w fins) fins)) (rowTold 13 (map (shellPart room w e true 6 8) (run 0 (word w 2))))))
   unfolding roomRows
   room-told =
       rows-first _ _

@@ -1,6 +1,6 @@
 -- Rows 12 and 13 of a split's tests, and each of what the code reads of it. `Laws.antt` says that they are the rows of `meaning_stops`. Definitions only.
 use Prim.Native.Nat.{ℕ, _+_}
-use mathlib.Core.Bool.{true, false}
+use mathlib.Core.Bool.{Bool}
 use mathlib.Core.List.{List, [], _∷_}
 use lib.Dec.{leb}
 use Rattle.geom_lines_planes.specs.Refuse.{_unless_}
@@ -18,13 +18,9 @@ unfoldable pub roomRows : Limits → Model → ℕ → List Row
 roomRows x m e = (12 ∶ row12 m e) ∷ (13 ∶ row13 x m e) ∷ []
 
 module _ (room w : List ℕ) where
-  -- 12. "A wire shell lists the edge more than once: 1"
-  unfoldable pub wirePart : ℕ → ℕ → Part
-  wirePart e s = part 1 (1 unless wireTest room w e false s) (this ofShell s) nothing
-
-  -- 13. a shell's slots
-  unfoldable pub slotPart : ℕ → ℕ → Part
-  slotPart e s = part 6 (8 unless wireTest room w e true s) (this ofShell s) nothing
+  -- a shell in the part k of a row, with the refusal n: 12. "A wire shell lists the edge more than once: 1"; or, where one more is asked for, 13. its slots
+  unfoldable pub shellPart : ℕ → Bool → ℕ → ℕ → ℕ → Part
+  shellPart e more k n s = part k (n unless wireTest room w e more s) (this ofShell s) nothing
 
   -- 13. the slots of the loop of the fin i, one of the edge's fins
   unfoldable pub loopPart : List ℕ → ℕ → Part

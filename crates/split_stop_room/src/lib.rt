@@ -27,35 +27,27 @@ ghost use Rattle.split_place.specs.Facts.{Owned};
 ghost use Rattle.memory_layout.specs.Limits.{limits};
 ghost use Rattle.split_place.specs.SplitNumber.{edgeRow, placeRow};
 ghost use Rattle.split_stop_parts.specs.Told.{told, rowTold, tell};
-ghost use Rattle.split_stop_room.specs.RoomRows.{roomRows, wirePart, slotPart, loopPart, tablesTold};
+ghost use Rattle.split_stop_room.specs.RoomRows.{roomRows, shellPart, loopPart, tablesTold};
 
-// Row 12: of the shells of the table the first that lists the edge more than once.
-fn wires_stop(room: &[usize; 10], words: &[u32], edge: usize) -> Stop
+// The first shell of the table whose wire edges refuse, told by a row and a part of it, with a refusal: those that list the edge twice, or, where one more is asked for, those without a slot.
+fn shells_stop(
+    room: &[usize; 10],
+    words: &[u32],
+    edge: usize,
+    more: bool,
+    row: u32,
+    place: u32,
+    refusal: u32,
+) -> Stop
     requires { ⌜ Lists (now room) (now words) ⌝ }
-    ensures { λ r. ⌜ r ≡ rowTold 12 (map (wirePart (now (room .entry)) (now (words .entry)) edge) (run 0 (word (now (words .entry)) SHELLS))) ⌝ }
+    ensures { λ r. ⌜ r ≡ rowTold row (map (shellPart (now (room .entry)) (now (words .entry)) edge more place refusal) (run 0 (word (now (words .entry)) SHELLS))) ⌝ }
 {
     let shells = words[SHELLS] as usize;
     let mut stop = stop_at(0, 0, 0, 10, 0, 10, 0);
     let mut s = 0;
     while s < shells {
-        let number = unless(1, wires_ok(room, words, edge, false, s));
-        stop = first(stop, stop_at(12, 1, number, 2, s, 10, 0));
-        s += 1;
-    }
-    stop
-}
-
-// Row 13, part 6: the first that has no slot for the new wire edge.
-fn slots_stop(room: &[usize; 10], words: &[u32], edge: usize) -> Stop
-    requires { ⌜ Lists (now room) (now words) ⌝ }
-    ensures { λ r. ⌜ r ≡ rowTold 13 (map (slotPart (now (room .entry)) (now (words .entry)) edge) (run 0 (word (now (words .entry)) SHELLS))) ⌝ }
-{
-    let shells = words[SHELLS] as usize;
-    let mut stop = stop_at(0, 0, 0, 10, 0, 10, 0);
-    let mut s = 0;
-    while s < shells {
-        let number = unless(8, wires_ok(room, words, edge, true, s));
-        stop = first(stop, stop_at(13, 6, number, 2, s, 10, 0));
+        let number = unless(refusal, wires_ok(room, words, edge, more, s));
+        stop = first(stop, stop_at(row, place, number, 2, s, 10, 0));
         s += 1;
     }
     stop
@@ -125,9 +117,9 @@ pub fn room_stop(
     ensures { λ r. ⌜ r ≡ told (firstStop (roomRows (limits (now (room .entry))) (decode (now (room .entry)) (now (words .entry)) (now (reals .entry))) edge)) ⌝ }
 {
     let fins = list(room, words, EDGE_FINS, edge);
-    let wires = wires_stop(room, words, edge);
+    let wires = shells_stop(room, words, edge, false, 12, 1, 1);
     let tables = tables_stop(room, words, edge, fins.len());
     let loops = loops_stop(room, words, fins);
-    let slots = slots_stop(room, words, edge);
+    let slots = shells_stop(room, words, edge, true, 13, 6, 8);
     first(wires, first(tables, first(loops, slots)))
 }
