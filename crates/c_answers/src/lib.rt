@@ -1,4 +1,6 @@
 // Inner: how the answers of boxes, volumes, splits and reports cross to C: the number, and the values in lent slots, which a refusal leaves as they were.
+#![tactic(auto)]
+
 ghost use Rattle.std.specs.Prelude.{◌≡◌, cond};
 ghost use Rattle.station_answers.specs.declared.BoxFound.TheVariants as Boxes;
 ghost use Rattle.station_answers.specs.declared.Volume.TheVariants as Volumes;

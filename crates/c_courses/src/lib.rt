@@ -1,4 +1,6 @@
 // Inner: the stones of a course as a C program asks for them (W-213): the answer's number, and in lent slots how many stones there are and their total in two words, which a refusal leaves as they were.
+#![tactic(auto)]
+
 ghost use Rattle.std.specs.Prelude.{◌≡◌, length, replicate};
 ghost use Rattle.memory_writes.specs.Put.{unless_refused};
 ghost use Rattle.office_courses.specs.Answers.{course_number};

@@ -1,4 +1,6 @@
 // Inner: the first fault of a report (W-207) as a C program asks for it: the answer's number, and the fault in lent slots, which a refusal leaves as they were.
+#![tactic(auto)]
+
 ghost use Rattle.std.specs.Prelude.{◌≡◌, length, replicate};
 ghost use Rattle.std.proofs.Math.Option.{some};
 ghost use Rattle.memory_writes.specs.Put.{unless_refused};

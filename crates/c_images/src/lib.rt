@@ -1,4 +1,6 @@
 // Inner: a model's image as a C program asks for it (W-202): the answer's number, and the length in a lent slot, which a refusal leaves as it was.
+#![tactic(auto)]
+
 ghost use Rattle.std.specs.Prelude.{◌≡◌, length};
 ghost use Rattle.memory_writes.specs.Put.{unless_refused};
 ghost use Rattle.image_format.specs.Image.{image_of};

@@ -1,4 +1,6 @@
 // Inner: a record more, its fields as a C program's numbers: its id in a lent slot. A tag that is none gives 1, right after 9.
+#![tactic(auto)]
+
 ghost use Rattle.std.specs.Prelude.{◌≡◌, true, [], ◌∷◌};
 ghost use Rattle.memory_layout.specs.Names.{BODIES, REGIONS, SHELLS, FACES, LOOPS, FINS, CURVES, SURFACES, EDGES, VERTICES};
 ghost use Rattle.memory_layout.specs.Layout.{word};

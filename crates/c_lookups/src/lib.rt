@@ -1,4 +1,6 @@
 // Inner: the lookups of model.rs for a C program, a record's value in lent slots.
+#![tactic(auto)]
+
 ghost use Rattle.std.specs.Prelude.{◌≡◌};
 ghost use Rattle.geom_lines_planes.specs.Refuse.{◌unless◌, ◌then◌};
 ghost use Rattle.meaning.specs.Model.{has};

@@ -1,4 +1,6 @@
 // Inner: boxes, volumes, splits and reports as a C program asks for them: the answer's number, and its values in lent slots, which a refusal leaves as they were.
+#![tactic(auto)]
+
 ghost use Rattle.std.specs.Prelude.{◌≡◌, [], ◌∷◌, length, replicate};
 ghost use Rattle.meaning.specs.Faults.{sawing};
 ghost use Rattle.memory_layout.specs.Names.{EDGES, VERTICES};

@@ -1,4 +1,6 @@
 // Inner: a mending and its dry run as a C program asks for them (W-208): the answer's number, and the number of changes in a lent slot, which a refusal leaves as it was.
+#![tactic(auto)]
+
 ghost use Rattle.std.specs.Prelude.{◌≡◌, length, replicate};
 ghost use Rattle.memory_writes.specs.Put.{unless_refused};
 ghost use Rattle.office_mends.specs.Answers.{office_mend_number, office_mend_count, office_mend_list, office_mend_words};

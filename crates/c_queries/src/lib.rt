@@ -1,4 +1,6 @@
 // Inner: what a C program asks of the records: the answer's number, and its values in lent slots, which a refusal leaves as they were.
+#![tactic(auto)]
+
 ghost use Rattle.std.specs.Prelude.{◌≡◌, [], ◌∷◌, ltb};
 ghost use Rattle.geom_lines_planes.specs.Refuse.{◌unless◌};
 ghost use Rattle.meaning.specs.Walks.{ends_of};

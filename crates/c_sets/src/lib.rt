@@ -1,4 +1,6 @@
 // Inner: other fields in a record, as a C program's numbers; its lists are kept. A tag that is none gives 1, right after 9.
+#![tactic(auto)]
+
 ghost use Rattle.std.specs.Prelude.{◌≡◌, true, []};
 ghost use Rattle.edit_core.specs.Answers.{edit_number, edit_words, edit_reals};
 ghost use Rattle.meaning.specs.Offices.{body_for};

@@ -1,4 +1,6 @@
 // Inner: a body taken in on a stone sheet, as a C program asks for it (W-201): the answer's number, and the sheet in five lent words, which a refusal leaves as they were.
+#![tactic(auto)]
+
 ghost use Rattle.std.specs.Prelude.{◌≡◌, length, replicate};
 ghost use Rattle.office_sheets.specs.Answers.{take_number, taken_sheet};
 ghost use Rattle.c_lent.specs.Lent.{was, lent};

@@ -1,4 +1,6 @@
 // Inner: the slab profile of a body as a C program asks for it (W-212): the answer's number, and the profile in three lent slots, which a refusal leaves as they were.
+#![tactic(auto)]
+
 ghost use Rattle.std.specs.Prelude.{◌≡◌, length, replicate};
 ghost use Rattle.memory_writes.specs.Put.{unless_refused};
 ghost use Rattle.slab_profile.specs.declared.Profile.TheVariants.{Refused};

@@ -1,5 +1,7 @@
 // Inner: a body's binary STL as a C program asks for it (W-209), and a body read from it (W-210): the answer's number, and the length or the new body's id in a lent
 // slot, which a refusal leaves as it was.
+#![tactic(auto)]
+
 ghost use Rattle.std.specs.Prelude.{◌≡◌, [], ◌∷◌, length, replicate};
 ghost use Rattle.memory_layout.specs.Names.{BODIES};
 ghost use Rattle.memory_layout.specs.Layout.{word};

@@ -1,5 +1,7 @@
 // Inner: what crosses between the calls and a C program. specs/Crossing.antt says as which numbers a value crosses, and specs/Given.antt which
 // fields the numbers name that are handed over. Here the answers that are no record; `values` has the records as numbers, `tags` the fields that numbers name.
+#![tactic(auto)]
+
 pub mod tags;
 pub mod values;
 

@@ -1,4 +1,6 @@
 // Inner: an edge's two ends and its samples, held against its curve and a face's surface (parts of `fin_geometry` of gensolid-check's lib.rs).
+#![tactic(auto)]
+
 ghost use Rattle.std.specs.Prelude.{◌≡◌, ◌≤◌};
 ghost use Rattle.meaning.specs.Lists.{listed, joined};
 ghost use Rattle.memory_layout.specs.Decode.{decode};

@@ -1,5 +1,7 @@
 // Inner: the ends of an edge as optional ids, the parameter of a vertex on its curve, and the rule of rings (parts of `fin_geometry` of
 // gensolid-check's lib.rs). `sides` and `refs` hold optional ids against others.
+#![tactic(auto)]
+
 pub mod refs;
 pub mod sides;
 

@@ -1,4 +1,6 @@
 // Inner: what is found of a face (`face` of gensolid-check's lib.rs).
+#![tactic(auto)]
+
 ghost use Rattle.std.specs.Prelude.{◌≤◌, ◌<◌};
 ghost use Rattle.meaning.specs.Lists.{joined};
 ghost use Rattle.meaning.specs.Faults.{loop_findings, face_findings};

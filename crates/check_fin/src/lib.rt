@@ -1,4 +1,6 @@
 // Inner: what is found of a fin (`fin` and `fin_geometry` of gensolid-check's lib.rs).
+#![tactic(auto)]
+
 ghost use Rattle.std.proofs.Math.Option.{some};
 ghost use Rattle.std.specs.Prelude.{◌≤◌, ◌<◌};
 ghost use Rattle.meaning.specs.Lists.{listed, joined};

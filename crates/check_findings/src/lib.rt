@@ -1,4 +1,6 @@
 // Inner: what is found of a body (`body` of gensolid-check's lib.rs).
+#![tactic(auto)]
+
 ghost use Rattle.std.specs.Prelude.{◌≡◌, true, ◌≤◌, ◌<◌, length, replicate};
 ghost use Rattle.meaning.specs.Faults.{manifold_edges, findings};
 ghost use Rattle.memory_layout.specs.Names.{BODIES};

@@ -1,5 +1,7 @@
 // Inner: what fit to saw asks of a body beside its report (W-203). It is solid, a face stands in a solid region, and every shell that a face of the
 // body names is one of the body's shells and lists the face.
+#![tactic(auto)]
+
 ghost use Rattle.std.specs.Prelude.{◌≡◌, true, ◌&&◌, List, ◌<◌, ltb, Float};
 ghost use Rattle.meaning.specs.Lists.{all, any};
 ghost use Rattle.meaning.specs.Faults.{whole_solid};

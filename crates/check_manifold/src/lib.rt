@@ -1,5 +1,7 @@
 // Inner: the manifold edges of a solid (`manifold_edge` of gensolid-check's lib.rs), over the walk of a body's edges. The walk may list ids that no
 // table has room for, so it is not put into a list: each source's new edges are tested before the next source is read.
+#![tactic(auto)]
+
 ghost use Rattle.std.specs.Prelude.{◌≡◌, List, [], ◌≤◌, ◌<◌, Float, length, take, replicate};
 ghost use Rattle.meaning.specs.Lists.{joined, firsts};
 ghost use Rattle.meaning.specs.Walks.{edge_walk};

@@ -1,4 +1,6 @@
 // Inner: the fins of a loop, each against the next (the part of `loop_` of gensolid-check's lib.rs that finds open loops).
+#![tactic(auto)]
+
 ghost use Rattle.std.specs.Prelude.{◌≡◌, true, List, ◌<◌, Float, length, get_or};
 ghost use Rattle.meaning.specs.Lists.{rotated};
 ghost use Rattle.meaning.specs.Walks.{ends_of, readable_fin};

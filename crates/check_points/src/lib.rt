@@ -1,5 +1,7 @@
 // Inner: points held against curves and surfaces, what is found of it logged (`point_on_surface` and parts of `fin_geometry` of
 // gensolid-check's lib.rs). `notes` says what a refusal and a sign lead to.
+#![tactic(auto)]
+
 pub mod notes;
 
 ghost use Rattle.std.specs.Prelude.{◌≤◌, ◌<◌};

@@ -3,6 +3,8 @@
 // The family check_: the report of a body (gensolid-check's lib.rs). It is asked by an office (office_measures); call check_fault_list for its faults as structs. Read from the
 // inside out: check_reasons, check_points, check_ends, check_edge, check_fin, check_open_loop, check_loop, check_face, check_regions, check_manifold,
 // check_findings; then check_refusals, check_fit, check_report, check_fault_list.
+#![tactic(auto)]
+
 ghost use Rattle.std.specs.Prelude.{◌≡◌, cond, List, [], ◌∷◌, ℕ, ◌≤◌, ◌<◌, ◌*◌, eqb};
 ghost use Rattle.std.proofs.lemmas.List.Edits.{sets};
 ghost use Rattle.meaning.specs.Faults.{skipped, fault_on, about, only_if};

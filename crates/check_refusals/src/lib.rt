@@ -1,4 +1,6 @@
 // Inner: what `check_body` tests before it looks at the body, and how many of the faults it keeps.
+#![tactic(auto)]
+
 ghost use Rattle.std.specs.Prelude.{◌≡◌, cond, ltb};
 ghost use Rattle.memory_layout.specs.Decode.{decode};
 ghost use Rattle.memory_layout.specs.Readable.{readable};

@@ -1,4 +1,6 @@
 // Inner: what is found of a body's regions and shells (`shell`, `region` and the region layout of `body` of gensolid-check's lib.rs).
+#![tactic(auto)]
+
 ghost use Rattle.std.specs.Prelude.{◌≡◌, ◌&&◌, List, ◌≤◌, Float};
 ghost use Rattle.meaning.specs.Lists.{joined};
 ghost use Rattle.meaning.specs.Model.{has, region};

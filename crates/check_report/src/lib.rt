@@ -1,5 +1,7 @@
 // Inner: `check_body` of gensolid-check's lib.rs over lent memory, its faults in plain numbers, four to a fault; `first_fault` (W-207) and `fit_to_saw` (01, "Faults"); whatever the body's office, callers
 // ask `office_measures`. specs/Calls.antt says which number, which report and which words. Besides, `check`, which asks for what the refusals have tested.
+#![tactic(auto)]
+
 ghost use Rattle.std.specs.Prelude.{◌≡◌, true, List, [], ◌∷◌, ◌≤◌, ◌<◌, ◌/◌, length, replicate, take};
 ghost use Rattle.meaning.specs.Faults.{Fault, counts, kept};
 ghost use Rattle.memory_layout.specs.Names.{BODIES};

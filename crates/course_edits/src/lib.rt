@@ -1,4 +1,6 @@
 // For callers: a course table made, a course more, its entries appended, put and struck, and what stands in it (W-213). specs/Answers.antt says what each answers and leaves. Inner: what refuses them, and an entry as a word.
+#![tactic(auto)]
+
 ghost use Rattle.std.specs.Prelude.{◌≡◌, true, [], ◌∷◌, ◌<◌, ◌≤◌};
 ghost use Rattle.memory_layout.specs.Layout.{word};
 ghost use Rattle.memory_writes.specs.Put.{unless_refused};

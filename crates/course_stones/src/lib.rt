@@ -1,4 +1,6 @@
 // Inner: the stones of a course, counted and added (W-213). Each body's number is worked out once, before, where any course lists it; the recursion over the entries, the levels falling, then adds known numbers.
+#![tactic(auto)]
+
 ghost use Rattle.std.specs.Prelude.{◌≡◌, [], ◌∷◌, map, ◌≤◌, ◌<◌, length, replicate};
 ghost use Rattle.meaning.specs.Lists.{member};
 ghost use Rattle.course_table.specs.Facts.{Laid};

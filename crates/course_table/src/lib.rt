@@ -1,6 +1,8 @@
 // Inner: which courses lent words hold (W-213; specs/Table.antt), whether they can be read, and the entries of a course. `readable` asks for nothing; the others ask for what it has tested.
 //
 // The family course_: the masons' courses within courses. Callers edit a table by course_edits and ask for a course by office_courses. Read meaning_courses first, then course_table; course_tests and course_stones are the recursions.
+#![tactic(auto)]
+
 ghost use Rattle.std.specs.Prelude.{◌≡◌, ◌+◌, ◌*◌, ◌<◌, ◌≤◌, ltb};
 ghost use Rattle.meaning.specs.Lists.{all, all_below};
 ghost use Rattle.memory_layout.specs.Decode.{list_at};

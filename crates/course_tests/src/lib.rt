@@ -1,4 +1,6 @@
 // Inner: what refuses a course before its stones are weighed (W-213): 2 for a course or a body missing within the levels, else 1 for a course listed beyond them.
+#![tactic(auto)]
+
 ghost use Rattle.std.specs.Prelude.{◌≡◌, List, map, ℕ, ◌≤◌, Float, length};
 ghost use Rattle.course_table.specs.Facts.{Laid};
 ghost use Rattle.course_table.specs.Table.{entry_of, courses_in};

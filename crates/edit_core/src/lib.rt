@@ -1,5 +1,7 @@
 // Inner: the core of every insert and edit, fields and floats of one record, by its table (model.rs, `RawEditor`).
 // `specs/Answers.antt` says what they answer and leave.
+#![tactic(auto)]
+
 ghost use Rattle.std.specs.Prelude.{◌≡◌, ◌<◌};
 ghost use Rattle.edit_core.specs.Answers.{insert_number, insert_answer, insert_words, insert_reals, edit_number, edit_words, edit_reals};
 ghost use Rattle.edit_core.specs.Facts.{Fields};

@@ -1,4 +1,6 @@
 // Inner: the fields of a record, as words and floats.
+#![tactic(auto)]
+
 ghost use Rattle.std.specs.Prelude.{◌≡◌};
 ghost use Rattle.edit_fields.specs.Fields.{body_fields, kind_fields, region_fields, shell_fields, face_fields, loop_fields, fin_fields, edge_fields, vertex_fields, carrier_fields, edge_floats, vertex_floats, six, carrier_floats};
 

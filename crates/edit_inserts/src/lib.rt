@@ -1,5 +1,7 @@
 // For callers: a record more, with empty lists, a body in the office that makes it. Its id, or 9; 1 for an office above 1, or a tolerance that no record may have; 8 for
 // no slot. No reference is checked. Inner: `insert_fields`.
+#![tactic(auto)]
+
 ghost use Rattle.std.specs.Prelude.{◌≡◌, true, [], leb};
 ghost use Rattle.meaning.specs.Edits.{tolerance_ok};
 ghost use Rattle.edit_core.specs.Answers.{insert_answer, insert_words, insert_reals};

@@ -1,5 +1,7 @@
 // Inner: editing the eight lists, an entry put, appended or struck (model.rs, `RawEditor`), whatever the office; callers ask `office_bodies`. `specs/Answers.antt` says what each call
 // answers and leaves. Besides, `start`, and the module `places`, which ask for what the refusals have tested.
+#![tactic(auto)]
+
 pub mod places;
 
 ghost use Rattle.std.specs.Prelude.{◌≡◌, ◌<◌, ◌≤◌};

@@ -2,6 +2,8 @@
 //
 // The family edit_: how a model is made and changed by hand. Call edit_make, edit_inserts, edit_sets; lists are edited by an office (office_bodies). Read edit_core, the core of every
 // insert and edit, then edit_tags and edit_fields, a record's fields as words and floats, then those; edit_effects says what they do to the model.
+#![tactic(auto)]
+
 ghost use Rattle.std.specs.Prelude.{◌≡◌};
 ghost use Rattle.edit_make.specs.Answers.{make_number, make_words, make_reals};
 

@@ -1,4 +1,6 @@
 // For callers: other fields in a record, its lists kept, and a body's office. 0, or 9; 1 for an office above 1, or a tolerance that no record may have; 2 for a missing record. Inner: `set_fields`.
+#![tactic(auto)]
+
 ghost use Rattle.std.specs.Prelude.{◌≡◌, true, [], ◌∷◌, leb};
 ghost use Rattle.meaning.specs.Edits.{tolerance_ok};
 ghost use Rattle.memory_offices.specs.Sight.{body_asked};

@@ -1,4 +1,6 @@
 // Inner: kinds, senses, marks, optional ids, tolerances and carriers as words and floats, as the fields of a record have them.
+#![tactic(auto)]
+
 ghost use Rattle.std.specs.Prelude.{◌≡◌};
 ghost use Rattle.meaning.specs.Edits.{tolerance_ok};
 ghost use Rattle.edit_tags.specs.Tags.{kind_tag, sense_tag, mark, ref_tag, ref_id, tolerance_tag, tolerance_float, carrier_tag};

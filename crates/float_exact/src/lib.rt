@@ -1,4 +1,6 @@
 // For callers: whether the sum of two floats is exact (W-205), by floats alone. A difference is the sum with the negative.
+#![tactic(auto)]
+
 ghost use Rattle.std.specs.Prelude.{◌≡◌};
 ghost use Rattle.float_exact.specs.Exact.{exact_sum};
 

@@ -1,4 +1,6 @@
 // For callers: whether a float is on the yard's grid of sixteenths of a millimetre (W-201). Inner: `sixteenths`, how many of them it is.
+#![tactic(auto)]
+
 ghost use Rattle.std.specs.Prelude.{◌≡◌, true};
 ghost use Rattle.float_grid.specs.Grid.{on_grid, sixteenths};
 

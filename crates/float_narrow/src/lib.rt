@@ -1,4 +1,6 @@
 // For callers: whether a float is a binary32 value, and its pattern there (W-209).
+#![tactic(auto)]
+
 ghost use Rattle.std.specs.Prelude.{◌≡◌};
 ghost use Rattle.float_narrow.specs.Narrow.{narrow, narrow_bits};
 ghost use Rattle.float_narrow.specs.Digits.{held};

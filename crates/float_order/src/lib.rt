@@ -2,6 +2,8 @@
 //
 // The family float_: f64 as IEEE 754 has it. float_order has the floats in their order, float_vectors points and vectors of them, float_values what number
 // each is, float_exact which sums are exact, and float_grid which floats are whole sixteenths.
+#![tactic(auto)]
+
 pub mod extremes;
 
 ghost use Rattle.std.specs.Prelude.{◌≡◌, ◌≤◌};

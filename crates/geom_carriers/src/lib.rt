@@ -1,4 +1,6 @@
 // For callers: carriers (store.rs). A table answers Found; what is no line or no plane gives 7.
+#![tactic(auto)]
+
 ghost use Rattle.std.specs.Prelude.{◌≡◌};
 ghost use Rattle.geom_carriers.specs.Queries.{line_answer, plane_answer};
 

@@ -1,5 +1,7 @@
 // For callers: the queries of store.rs about carriers. Each makes the source's tests of number and record, and then gives 7 to what is no line or
 // no plane.
+#![tactic(auto)]
+
 ghost use Rattle.std.specs.Prelude.{◌≡◌};
 ghost use Rattle.geom_lines_planes.specs.Geometry.{line_point, plane_distance};
 ghost use Rattle.geom_queries.specs.Queries.{on_line, near_line, off_plane, projection, evaluated_answer, projected_answer, measured_answer, eval_curve, project_to_curve, distance_to_surface};

@@ -1,5 +1,7 @@
 // For callers: the sign tests of euler.rs and gensolid-check, over intervals. A sign that is decided is that of the exact number
 // (`specs/Certified.antt`).
+#![tactic(auto)]
+
 pub mod offsets;
 
 ghost use Rattle.std.specs.Prelude.{◌≡◌};

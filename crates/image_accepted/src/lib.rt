@@ -1,4 +1,6 @@
 // Inner: whether bytes are an image (W-202, W-211). `specs/Image.antt` of `image_format` says which are. Other crates call `accepted` and `count_in`, and `version_in` and `records_in` of `version`.
+#![tactic(auto)]
+
 pub mod version;
 
 ghost use Rattle.std.specs.Prelude.{◌≡◌, ◌<◌, ◌≤◌, length};

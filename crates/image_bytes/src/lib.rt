@@ -1,4 +1,6 @@
 // Inner: numbers and floats in lent bytes (W-202). `specs/Bytes.antt` of `image_format` says which bytes they are.
+#![tactic(auto)]
+
 ghost use Rattle.std.specs.Prelude.{◌≡◌, ◌+◌, ◌*◌, ◌≤◌, ◌<◌, length, drop};
 ghost use Rattle.std.specs.Float.{binary64};
 ghost use Rattle.std.specs.Float.Ieee.{to_bits, of_bits};

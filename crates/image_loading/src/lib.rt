@@ -1,4 +1,6 @@
 // Inner: the records of an accepted image laid over the lent memory (W-202). `specs/Laid.antt` says what stands in it then. Other crates call `load`.
+#![tactic(auto)]
+
 pub mod parts;
 
 ghost use Rattle.std.specs.Prelude.{◌≡◌, suc, ◌+◌, ◌≤◌, ◌<◌, length, drop};

@@ -1,4 +1,6 @@
 // For callers: `read_image`, a model from an image (W-202, W-211). `specs/Answers.antt` says what it answers and leaves; docs/IMAGE.md has the format.
+#![tactic(auto)]
+
 ghost use Rattle.std.specs.Prelude.{◌≡◌, ◌≤◌, length};
 ghost use Rattle.image_reader.specs.Answers.{room_for, read_number, read_words, read_reals};
 

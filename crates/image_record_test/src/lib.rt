@@ -1,4 +1,6 @@
 // Inner: whether an image may have the record that begins at a place of it, and where that record ends (W-202): `specs/Good.antt`. Other crates call `record_end`.
+#![tactic(auto)]
+
 pub mod fields;
 pub mod parts;
 

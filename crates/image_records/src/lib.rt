@@ -1,4 +1,6 @@
 // Inner: one record of the lent memory as bytes, its length and its writing (W-202). `specs/Kept.antt` says which fields an image keeps of it.
+#![tactic(auto)]
+
 ghost use Rattle.std.specs.Prelude.{◌≡◌, suc, ◌+◌, ◌<◌, ◌≤◌, length, take, drop};
 ghost use Rattle.memory_layout.specs.Names.{BODIES, AT-BODY-OFFICE};
 ghost use Rattle.memory_layout.specs.Layout.{word};

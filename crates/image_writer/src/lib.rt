@@ -1,5 +1,7 @@
 // For callers: `image_length`, how many bytes a model's image takes, and `write_image`, which writes it (W-202, W-211). `specs/Answers.antt` says what they answer and leave; docs/IMAGE.md has the format.
 // Inner: the functions that go through the tables, which ask for what `readable` has tested.
+#![tactic(auto)]
+
 ghost use Rattle.std.specs.Prelude.{◌≡◌, ◌+◌, ◌<◌, ◌≤◌, length};
 ghost use Rattle.memory_layout.specs.Decode.{decode};
 ghost use Rattle.memory_layout.specs.Fit.{Fit};

@@ -1,5 +1,7 @@
 // Inner: `body_bounding_box` of inquire.rs, whatever the body's office; callers ask `office_measures`. specs/Answers.antt says what it answers. Besides, `bounding_box`, and the module `extent`, the box of
 // what a path lists.
+#![tactic(auto)]
+
 pub mod extent;
 
 ghost use Rattle.std.specs.Prelude.{◌≡◌, length, replicate};

@@ -1,5 +1,7 @@
 // Inner: points in whole sixteenths, and one triangle of a fan (W-201), in `i64`, which no step outgrows: a coordinate is at most 2^15 in size, a difference
 // 2^16, a component of a cross product 2^33, a triangle 3·2^48.
+#![tactic(auto)]
+
 ghost use Rattle.std.specs.Prelude.{◌≡◌, true, ◌≤◌, ◌^◌, nat_abs, ◌-ℤ◌, ◌*ℤ◌};
 ghost use Rattle.meaning_sheets.specs.Sheets.{grid_point, corner, minus_c, dot_c, cross_c, wedge};
 ghost use Rattle.meaning_sheet_laws.specs.Sizes.{Within, Small};

@@ -1,5 +1,7 @@
 // Inner: the fan of a loop (`polygon_volume` of inquire.rs). Its points are where the fins start; of them the first and two others are held
 // (W-204), and for a front side the fins are walked backwards.
+#![tactic(auto)]
+
 ghost use Rattle.std.specs.Prelude.{◌≡◌, cond, map, ◌-◌, ◌<◌, ◌≤◌, length, get_or};
 ghost use Rattle.meaning.specs.Inquire.{polygon_volume};
 ghost use Rattle.memory_layout.specs.Decode.{decode};

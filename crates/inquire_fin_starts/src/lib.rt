@@ -1,5 +1,7 @@
 // Inner: where the fins of a loop start (`fin_vertices` and the points of `oriented_face_volume`, inquire.rs). A fin's words are owner, edge,
 // sense, pcurve mark; an edge's begin with start tag, id, end tag, id.
+#![tactic(auto)]
+
 ghost use Rattle.std.specs.Prelude.{◌≡◌, true, ◌+◌, ◌≤◌, length};
 ghost use Rattle.meaning.specs.Lists.{all};
 ghost use Rattle.meaning.specs.Refuse.{first_of};

@@ -1,5 +1,7 @@
 // Inner: are all faces of a body planes, and all its edges straight (`require_polyhedral` of inquire.rs)? A repeated id gives the same number
 // again, so what a walk lists is tested where it is listed, without a list or marks of first meetings: no call holds an array.
+#![tactic(auto)]
+
 pub mod carriers;
 pub mod listed;
 pub mod rims;

@@ -1,5 +1,7 @@
 // Inner: the sides of a body's solid regions, met one after the other as they are listed (the loops of `body_volume`, inquire.rs): one path for the volume in floats and,
 // where it is `whole`, in whole numbers (W-201).
+#![tactic(auto)]
+
 ghost use Rattle.std.specs.Prelude.{◌≡◌, Bool, true, List, [], ◌∷◌, ◌++◌, ◌<◌, ltb};
 ghost use Rattle.meaning.specs.Lists.{all, joined};
 ghost use Rattle.meaning.specs.Model.{Model};

@@ -1,5 +1,7 @@
 // Inner: a face as a shell lists it, whether its volume can be told, and that volume (`oriented_face_volume` of inquire.rs). A face's words
 // begin with front tag, id, back tag, id.
+#![tactic(auto)]
+
 ghost use Rattle.std.specs.Prelude.{◌≡◌, true, ◌+◌, ◌<◌, ◌≤◌, length};
 ghost use Rattle.meaning.specs.Lists.{all};
 ghost use Rattle.meaning.specs.Inquire.{alike, side_volume};

@@ -1,4 +1,6 @@
 // Inner: a body as a stone of the yard's sheet (W-201), whatever its office; callers ask `office_sheets`. specs/Answers.antt says what it answers.
+#![tactic(auto)]
+
 ghost use Rattle.std.specs.Prelude.{◌≡◌, length, replicate};
 ghost use Rattle.inquire_stone.specs.Answers.{stone_answer};
 ghost use Rattle.inquire_stone.specs.Told.{weight_number, told_stone};

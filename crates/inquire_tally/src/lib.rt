@@ -1,4 +1,6 @@
 // Inner: the tally of a body's sides behind all that refuses its volume, in floats or in whole numbers: what `body_volume` (inquire.rs) and W-201's stone are told from.
+#![tactic(auto)]
+
 ghost use Rattle.std.specs.Prelude.{◌≡◌, length, replicate};
 ghost use Rattle.meaning.specs.Inquire.{is_solid};
 ghost use Rattle.memory_layout.specs.Decode.{decode, kind_of};

@@ -1,4 +1,6 @@
 // Inner: `body_volume` of inquire.rs, whatever the body's office; callers ask `office_measures`. specs/Answers.antt says what it answers.
+#![tactic(auto)]
+
 ghost use Rattle.std.specs.Prelude.{◌≡◌, length, replicate};
 ghost use Rattle.inquire_volume.specs.Answers.{volume_answer};
 ghost use Rattle.inquire_volume.specs.Told.{told_volume};

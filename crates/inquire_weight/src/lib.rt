@@ -1,5 +1,7 @@
 // Inner: what sides weigh in whole numbers (W-201), met one after the other: whether a point is off the grid, how many triangles their fans have, and six times their
 // volume, what is above zero and what is below it apart.
+#![tactic(auto)]
+
 ghost use Rattle.std.specs.Prelude.{◌≡◌, ◌^◌, ◌≤◌, true, List, [], ◌∷◌, ◌++◌, map, unsigned_abs};
 ghost use Rattle.float_values.specs.Laws.Pairs.{over, under};
 ghost use Rattle.meaning.specs.Inquire.{Side};

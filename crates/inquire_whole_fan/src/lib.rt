@@ -1,5 +1,7 @@
 // Inner: the fan of a loop in whole numbers (W-201), of the points of `inquire_fan`, in their order: whether they are on the grid, and six times the volume of the
 // cone from the origin to their polygon.
+#![tactic(auto)]
+
 ghost use Rattle.std.specs.Prelude.{◌≡◌, true, map, ◌<◌, ◌≤◌, length, get_or};
 ghost use Rattle.meaning_sheets.specs.Sheets.{corner, grid_points, whole_polygon};
 ghost use Rattle.memory_layout.specs.Decode.{decode};

@@ -5,6 +5,8 @@
 // The family interval_: numbers known between two bounds. interval_arithmetic has the operations, interval_vectors vectors of intervals,
 // interval_enclosure the proof that bounds hold the exact number,
 // interval_narrowing the proof that narrower operands give narrower intervals.
+#![tactic(auto)]
+
 ghost use Rattle.std.specs.Prelude.{◌≡◌};
 ghost use Rattle.interval_arithmetic.specs.Ops.{checked_i, outward_i, point_i, low_sum, high_sum, add_i, sub_i, mul_i, neg_i, contains_i, sqr_i, sign_of, sign_i};
 

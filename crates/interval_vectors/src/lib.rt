@@ -1,4 +1,6 @@
 // For callers: vectors of intervals, `vector` and `dot` of polyhedron.rs.
+#![tactic(auto)]
+
 ghost use Rattle.std.specs.Prelude.{◌≡◌};
 ghost use Rattle.interval_vectors.specs.Vectors.{difference_i, point_i3, vector_i, dot_i};
 

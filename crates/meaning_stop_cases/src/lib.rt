@@ -1,3 +1,4 @@
 // No code: the reasons of refusals and the doubts of reports evaluated, on the trial stone and on damaged models (specs/). A crate has a function, so here is one.
+#![tactic(auto)]
 
 pub fn nothing() {}

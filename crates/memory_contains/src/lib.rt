@@ -1,5 +1,7 @@
 // For callers: `precision`, the session's (model.rs), and `version`, the model's (W-211). Each tests 9 first; an id that a call is asked with is a usize, as a place in a list is.
 // Inner: `contains`, whether a record is there, whatever the office (callers ask `office_bodies`); `refusal`, which the lookups share.
+#![tactic(auto)]
+
 ghost use Rattle.std.specs.Prelude.{◌≡◌, ◌<◌};
 ghost use Rattle.memory_contains.specs.Answers.{precision_answer, version_answer, contains_answer};
 ghost use Rattle.memory_contains.specs.Inner.{table_of, id_of, refusal_at};

@@ -1,5 +1,7 @@
 // Inner: `list_entry`, an entry of one of the eight lists, and `entry_refusal`, whatever the office; callers ask `office_bodies`. Besides, the lists as views of the lent words, which ask for what
 // `readable` has tested.
+#![tactic(auto)]
+
 ghost use Rattle.std.specs.Prelude.{◌≡◌, ◌<◌, ◌≤◌};
 ghost use Rattle.memory_layout.specs.Layout.{word};
 ghost use Rattle.memory_layout.specs.Decode.{list_at};

@@ -1,5 +1,7 @@
 // For callers: the lookups of model.rs. Each tests 9, then 2; an id that a call is asked with is a usize, as a place in a list is. Inner: `body`, whatever its office (callers
 // ask `office_bodies`), and `carrier_found`.
+#![tactic(auto)]
+
 ghost use Rattle.std.specs.Prelude.{◌≡◌, ◌<◌};
 ghost use Rattle.memory_lookups.specs.Lookup.{body_answer, region_answer, shell_answer, face_answer, loop_answer, fin_answer, edge_answer, vertex_answer, curve_answer, surface_answer};
 ghost use Rattle.memory_lookups.specs.Inner.{carrier_answer};

@@ -1,4 +1,6 @@
 // Inner: what an office sees of the bodies (W-206). `body_for` reads any memory: the calls behind it test 9 themselves, and look at no id before that.
+#![tactic(auto)]
+
 ghost use Rattle.std.specs.Prelude.{◌≡◌, ℕ, List, Float};
 ghost use Rattle.meaning.specs.Offices.{office_number, body_for};
 ghost use Rattle.memory_layout.specs.Layout.{word};

@@ -1,5 +1,7 @@
 // For callers: `readable`, the test of refusal 9, and `lent_ok`. The capacities, the lent memory and the used counts agree, and every used record passes its own test.
 // Inner: `unknown_tag`; the functions that test a part, which ask that the parts before it passed; and `words_row` and `reals_row`, a record among its table's own words and floats.
+#![tactic(auto)]
+
 ghost use Rattle.std.specs.Prelude.{◌≡◌, ◌+◌, ◌*◌, ◌<◌, ◌≤◌, length};
 ghost use Rattle.memory_layout.specs.Readable.{room_ok, counts_ok, table_ok, tables_ok, lent_ok, sized_ok, readable, tag_number};
 ghost use Rattle.memory_layout.specs.Fit.{Sized};

@@ -1,4 +1,6 @@
 // Inner: record i of each table, read off the lent memory. `records` makes it of its own words and floats.
+#![tactic(auto)]
+
 pub mod carriers;
 pub mod records;
 

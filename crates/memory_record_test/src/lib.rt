@@ -1,4 +1,6 @@
 // Inner: whether a record is one that refusal 9 lets through. It is tested by its own words and floats. `specs/Readable.antt` of `memory_layout` has the tests.
+#![tactic(auto)]
+
 pub mod allowed;
 
 ghost use Rattle.std.specs.Prelude.{◌≡◌, ◌&&◌, ◌<◌, ◌≤◌, leb, [], length};

@@ -1,5 +1,7 @@
 // Inner: `mend_changes`, the changes that a mending of a body makes, listed and not made, and `mend`, which makes them (W-208), whatever the body's office; callers ask `office_mends`. `specs/Answers.antt` says what they
 // answer and leave. What is refused is known before a word is written: the walk is made on a list with no entry first.
+#![tactic(auto)]
+
 ghost use Rattle.std.specs.Prelude.{◌≡◌, List, ◌<◌, length, replicate, Float};
 ghost use Rattle.memory_layout.specs.Decode.{decode};
 ghost use Rattle.meaning_mends.specs.Mends.{mend_refusal};

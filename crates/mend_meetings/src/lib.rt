@@ -1,5 +1,7 @@
 // Inner: a record that is met in a list of a body, and what a mending changes of it (W-208): its parent, and, of a fin, its edge's list. The tables are read, and the change is put into a list as far as it has entries, so that on a list with
 // none the changes are counted. Marks say which records were met, and how many fins an edge gets (`specs/Machine.antt`).
+#![tactic(auto)]
+
 ghost use Rattle.std.specs.Prelude.{◌≡◌, List, [], ◌∷◌, ℕ, ◌≤◌, ◌<◌, length};
 ghost use Rattle.meaning.specs.Model.{fin};
 ghost use Rattle.memory_layout.specs.Layout.{word};

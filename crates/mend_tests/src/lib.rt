@@ -3,6 +3,8 @@
 //
 // The family mend_: back pointers mended from the lists of a body (W-208). `meaning_mends` says what a mending changes and when it is refused. It is asked by an office (office_mends). Read mend_tests, mend_meetings, mend_exact,
 // mend_walk, mend_writes, mend_effects, mend_body.
+#![tactic(auto)]
+
 ghost use Rattle.std.specs.Prelude.{◌≡◌, List, ◌-◌, ◌≤◌, ◌<◌, Float};
 ghost use Rattle.meaning_mends.specs.Mends.{lists_refusal};
 ghost use Rattle.memory_layout.specs.Names.{REGIONS};

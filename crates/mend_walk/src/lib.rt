@@ -1,4 +1,6 @@
 // Inner: a walk of a body that lists what a mending changes (W-208): the parents that its lists give, and the fins that their edges do not list. Ask it where `mend_tests` refuses nothing.
+#![tactic(auto)]
+
 ghost use Rattle.std.specs.Prelude.{◌≡◌, true};
 ghost use Rattle.meaning.specs.Lists.{all, joined};
 ghost use Rattle.meaning.specs.Walks.{readable_fin};

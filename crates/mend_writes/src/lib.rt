@@ -1,5 +1,7 @@
 // Inner: the changes of a mending (W-208), stored among the words of the tables. `specs/Made.antt` says what they leave, `Facts.antt` what is asked of them;
 // what they do to the model is said in `mend_effects`.
+#![tactic(auto)]
+
 ghost use Rattle.std.specs.Prelude.{◌≡◌, ◌+◌, ◌≤◌, ◌<◌, List, length};
 ghost use Rattle.meaning_mends.specs.Mends.{Change};
 ghost use Rattle.meaning_mends.specs.Words.{changes_words};

@@ -4,6 +4,8 @@
 //
 // The family office_: the calls about a body, by the drawing office that asks (W-206). Call office_bodies, office_walks or office_views, office_measures, office_sheets or office_sheet_lent; each is a test of the office
 // in front of a call by id. Read crates/meaning/specs/Offices.antt and memory_offices first. The split, which names its office too, is in split_.
+#![tactic(auto)]
+
 ghost use Rattle.std.specs.Prelude.{◌≡◌, ℕ, List, Float};
 ghost use Rattle.memory_layout.specs.Decode.{decode};
 ghost use Rattle.office_bodies.specs.Answers.{entity_for, record_for, office_body, office_contains, office_entry_number, office_entry, office_put_words, office_append_number, office_append_words, office_strike_words};

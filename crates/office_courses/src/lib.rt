@@ -1,4 +1,6 @@
 // For callers: how many stones a course has and their exact total (W-213), by the office that asks (W-206). specs/Answers.antt says what it answers.
+#![tactic(auto)]
+
 ghost use Rattle.std.specs.Prelude.{◌≡◌, length, replicate};
 ghost use Rattle.office_courses.specs.Answers.{course_answer};
 ghost use Rattle.office_courses.specs.Told.{tests_number, told_sum};

@@ -1,5 +1,7 @@
 // For callers: box, volume, report, its first fault and fit to saw of a body, by the office that asks (W-206): 9, 1 for an office above 1, then as `inquire_box`, `inquire_volume` and `check_report`
 // answer of the body that the id is for that office. specs/Answers.antt says what each answers.
+#![tactic(auto)]
+
 ghost use Rattle.std.specs.Prelude.{◌≡◌, length, replicate};
 ghost use Rattle.check_report.specs.Calls.{asked};
 ghost use Rattle.office_measures.specs.Answers.{office_box, office_volume, office_report, office_faults, office_first, office_fit};

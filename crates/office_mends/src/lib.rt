@@ -1,4 +1,6 @@
 // For callers: `mend_changes`, the changes that a mending of a body makes, listed and not made, and `mend`, which makes them (W-208), by the office that asks. `specs/Answers.antt` says what they answer and leave.
+#![tactic(auto)]
+
 ghost use Rattle.std.specs.Prelude.{◌≡◌, length, replicate};
 ghost use Rattle.office_mends.specs.Answers.{office_mend_number, office_mend_count, office_mend_list, office_mend_words};
 

@@ -1,5 +1,7 @@
 // For callers: a body taken in on the yard's stone sheet (W-201), by value, by the office that asks (W-206). specs/Answers.antt says what it answers. It is what callers within the project use;
 // `office_sheet_lent` updates a sheet where it stands.
+#![tactic(auto)]
+
 ghost use Rattle.std.specs.Prelude.{◌≡◌, true, ◌*◌, ◌^◌, ◌≤◌, length, replicate};
 ghost use Rattle.meaning_sheets.specs.Sheets.{sheet_readable};
 ghost use Rattle.sheet_words.specs.Words.{sheet_of};

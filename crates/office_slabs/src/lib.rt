@@ -1,5 +1,7 @@
 // For callers: the slab profile of a body (W-212), by the office that asks (W-206): 9, 1 for an office above 1, then as `slab_profile` answers of the body that the id is for that office.
 // specs/Answers.antt says what it answers and leaves.
+#![tactic(auto)]
+
 ghost use Rattle.std.specs.Prelude.{◌≡◌, length, replicate};
 ghost use Rattle.office_slabs.specs.Answers.{office_profile, office_areas};
 

@@ -1,5 +1,7 @@
 // For callers: how many bytes a body's binary STL takes, and the writing of it (W-209), by the office that asks (W-206): 9, 1 for an office above 1, then as `stl_writer` answers of the body that
 // the id is for that office. specs/Answers.antt says what they answer and leave.
+#![tactic(auto)]
+
 ghost use Rattle.std.specs.Prelude.{◌≡◌, length, replicate};
 ghost use Rattle.office_stl.specs.Answers.{office_length, office_write, office_written};
 

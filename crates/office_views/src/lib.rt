@@ -1,4 +1,6 @@
 // For callers: the walks in their second form, the part of the caller's list that `write_faces` and its like have filled, as a view.
+#![tactic(auto)]
+
 ghost use Rattle.std.specs.Prelude.{◌≡◌, length, replicate};
 ghost use Rattle.office_walks.specs.Calls.{office_faces_number, office_faces_handed, office_edges_number, office_edges_handed, office_vertices_number, office_vertices_handed};
 

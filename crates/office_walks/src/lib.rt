@@ -1,6 +1,8 @@
 // For callers: the three walks of a body, by the office that asks (W-206): 9, 1 for an office above 1, then as `walk_body` answers of the body that the id is for that office.
 // specs/Calls.antt says which number and which list they give. Each has two forms: `write_..` fills the front of the caller's list and returns how many ids it put there, and its
 // promise tells of the whole list; the form without `write` (crate `office_views`) returns that front part.
+#![tactic(auto)]
+
 ghost use Rattle.std.specs.Prelude.{◌≡◌, length, replicate};
 ghost use Rattle.walk_answers.specs.Calls.{in_front};
 ghost use Rattle.office_walks.specs.Calls.{office_faces_number, office_faces_handed, office_edges_number, office_edges_handed, office_vertices_number, office_vertices_handed};

@@ -2,6 +2,8 @@
 //
 // The family replay_: fixed lists of the Rust's answers, asked again in the gate. replay_digits reads their numbers; replay_numbers asks number by
 // number, through replay_probe; replay_models asks about whole models.
+#![tactic(auto)]
+
 ghost use Rattle.std.specs.Prelude.{◌<◌};
 
 // A hexadecimal digit's value.

@@ -1,5 +1,7 @@
 // Program: replays a fixed list of the Rust's answers about whole models (stdin; compare/README.md says how it is made and how a row is
 // written), and writes how many models and answers there were and how many of ours differ. Inner: the reading of rows, which asks that they are whole.
+#![tactic(auto)]
+
 mod asks;
 mod rows;
 

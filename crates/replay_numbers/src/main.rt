@@ -1,5 +1,7 @@
 // Program: replays the fixed list of the Rust's answers (stdin; compare/README.md says how it is made and how a row is written),
 // and writes how many rows there were and how many of our answers differ from them. Inner: the reading of a row, which asks that it is whole.
+#![tactic(auto)]
+
 ghost use Rattle.std.specs.Prelude.{◌≤◌};
 
 use replay_digits::{bits_of, float_of, hex};

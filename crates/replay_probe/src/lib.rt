@@ -1,6 +1,8 @@
 // Inner: one operation of the numbers and the geometry by its number, for the runs against the Rust. Twelve floats go in, a number and six
 // floats come out. The program replay_numbers and compare/ ask through the same function, so that both ask the same thing.
 // It is a test's driver and no call of the station: its contract says nothing, and a mistake in it shows as a difference.
+#![tactic(auto)]
+
 use float_vectors::vector::{Point3, Vec3};
 use geom_carriers::{Carrier, Found};
 use geom_lines_planes::curve::Line;

@@ -1,6 +1,8 @@
 // Inner: the stone sheet in five words (W-201): what they tell, whether they can be read, and one stone more, by value.
 //
 // The family sheet_: the yard's running sheet in whole numbers. sheet_words has the struct and its update by value; the calls that take a body in stand in office_.
+#![tactic(auto)]
+
 ghost use Rattle.std.specs.Prelude.{◌≡◌, ◌+◌, ◌*◌, ◌^◌, ◌<◌, ◌≤◌, true, pos, ◌+ℤ◌, ◌-ℤ◌, int_lt, nat_le, nat_lt, unsigned_abs};
 ghost use Rattle.std.proofs.Math.IntN.{sub_ℕ};
 ghost use Rattle.meaning_sheets.specs.Sheets.{sheet_readable, with_stone};

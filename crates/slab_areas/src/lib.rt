@@ -1,5 +1,7 @@
 // Inner: the areas of faces in square sixteenths (W-212), in `i64` and `u64`, which no step outgrows: a coordinate is at most 2^15 in size, a step of a loop 2^31, a face 2^42, all faces
 // of a body 2^51.
+#![tactic(auto)]
+
 ghost use Rattle.std.specs.Prelude.{◌≡◌, true, cond, map, ◌≤◌, ◌^◌, eqb, nat_abs, ◌-ℤ◌, ◌*ℤ◌, length};
 ghost use Rattle.float_grid.specs.Grid.{sixteenths};
 ghost use Rattle.meaning.specs.Lists.{all};

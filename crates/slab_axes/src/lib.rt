@@ -1,6 +1,8 @@
 // Inner: axes (W-212): whether a normal is a signed axis and which, a point's coordinate on it, in how many coordinates two points differ; and a broken rule as a number.
 //
 // The family slab_: the slab profile of a body. Callers ask office_slabs. Read slab_axes, slab_entities, of which the rules are made, slab_rules, slab_areas, then slab_profile.
+#![tactic(auto)]
+
 ghost use Rattle.std.specs.Prelude.{◌≡◌, suc, ◌≤◌};
 ghost use Rattle.geom_lines_planes.specs.Refuse.{◌unless◌, ◌then◌};
 ghost use Rattle.meaning_slabs.specs.Slabs.{unit_f, nought, signed_axis, axis_of, on, differs, differing};

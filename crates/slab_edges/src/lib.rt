@@ -1,5 +1,7 @@
 // Inner: the edges and the vertices of a path by their rules (W-212): an edge's ends differ in exactly one coordinate; a vertex is on the grid. A repeated id gives the same number
 // again, so that the first of the path is the first of the walk.
+#![tactic(auto)]
+
 ghost use Rattle.std.specs.Prelude.{◌≡◌, ◌≤◌, ◌<◌, length};
 ghost use Rattle.meaning.specs.Model.{point_of};
 ghost use Rattle.meaning.specs.Refuse.{first_of};

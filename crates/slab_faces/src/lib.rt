@@ -1,4 +1,6 @@
 // Inner: the faces of a body by their rules (W-212): its normal is a signed axis, it has one loop, each fin of it ends where the next starts, its corners have one value on the normal's axis.
+#![tactic(auto)]
+
 ghost use Rattle.std.specs.Prelude.{◌≡◌, true, ◌+◌, ◌≤◌, ◌<◌, length};
 ghost use Rattle.geom_carriers.specs.Queries.{the_plane};
 ghost use Rattle.meaning.specs.Lists.{all, the};

@@ -1,4 +1,6 @@
 // Inner: the fins of a face's loop (W-212): each ends where the next starts, the last where the first does.
+#![tactic(auto)]
+
 ghost use Rattle.std.specs.Prelude.{◌≡◌, true, List, ◌+◌, ◌≤◌, ◌<◌, Float, length, get_or};
 ghost use Rattle.meaning.specs.Lists.{all};
 ghost use Rattle.meaning.specs.Refuse.{first_refusal};

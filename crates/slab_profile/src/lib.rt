@@ -1,4 +1,6 @@
 // Inner: the slab profile of a body (W-212), whatever its office; callers ask `office_slabs`. specs/Answers.antt says what it answers and leaves.
+#![tactic(auto)]
+
 ghost use Rattle.std.specs.Prelude.{◌≡◌, true, ◌≤◌, length, replicate};
 ghost use Rattle.meaning.specs.Lists.{all};
 ghost use Rattle.meaning.specs.Walks.{face_walk};

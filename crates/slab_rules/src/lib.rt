@@ -1,4 +1,6 @@
 // Inner: which rule of the slab profile (W-212) a body breaks first, and where. Each rule is asked of all its entities; the rules about a face's loop, where it has one.
+#![tactic(auto)]
+
 ghost use Rattle.std.specs.Prelude.{◌≡◌, length, replicate};
 ghost use Rattle.meaning.specs.Walks.{face_walk, edge_walk, vertex_walk};
 ghost use Rattle.meaning_slabs.specs.Slabs.{first_broken, along_axis, grid_vertex, verdict};

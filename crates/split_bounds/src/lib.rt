@@ -1,5 +1,7 @@
 // For callers: `edge_parameter_bounds` of euler.rs. `specs/Answers.antt` says what it answers. Inner: its tests, which the split makes too, and the
 // module `ends`, what they read.
+#![tactic(auto)]
+
 pub mod ends;
 
 ghost use Rattle.std.specs.Prelude.{◌≡◌};

@@ -1,5 +1,7 @@
 // For callers: `split_line_edge` of euler.rs by an office (W-206), the tests, then the writing, which cannot fail. `specs/After.antt` says what it answers
 // and leaves. Inner: the module `point`, the floats of what is new.
+#![tactic(auto)]
+
 pub mod point;
 
 ghost use Rattle.std.specs.Prelude.{◌≡◌};

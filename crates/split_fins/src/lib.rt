@@ -1,5 +1,7 @@
 // Inner: the fins of an edge by their own words, test 3 of euler.rs's `split_line_edge`, and test 11 as far as the loop. A fin's words are owner, edge,
 // sense, pcurve mark.
+#![tactic(auto)]
+
 ghost use Rattle.std.specs.Prelude.{◌≡◌, ◌<◌, cond, length, take, get_or};
 ghost use Rattle.meaning.specs.Lists.{member};
 ghost use Rattle.meaning.specs.Refuse.{first_of};

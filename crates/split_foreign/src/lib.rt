@@ -1,6 +1,8 @@
 // Inner: whether an edge is in a walk of the other office's bodies, and what it is for an office (W-206). No walk is made: where the other office has a body at all, one pass
 // over the tables, from the fins up, gives each record a status (`specs/Status.antt`), so that the cost is that of reading the tables once, whatever they list.
 // `mend_tests`, which makes such a pass too, calls `bit`, `greater` and `list_status`.
+#![tactic(auto)]
+
 ghost use Rattle.std.specs.Prelude.{◌≡◌, List, ◌<◌, Float};
 ghost use Rattle.meaning.specs.Lists.{member};
 ghost use Rattle.meaning.specs.Formed.{bit};

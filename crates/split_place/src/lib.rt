@@ -1,4 +1,6 @@
 // Inner: where the edge is split, tests 1, 9 and 10. `specs/SplitNumber.antt` says what a call is refused with.
+#![tactic(auto)]
+
 ghost use Rattle.std.specs.Prelude.{◌≡◌, ◌<◌};
 ghost use Rattle.memory_layout.specs.Names.{EDGES};
 ghost use Rattle.memory_layout.specs.Layout.{word};

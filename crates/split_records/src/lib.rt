@@ -1,6 +1,8 @@
 // Inner: what a split writes besides the lists and the fins. Here the old edge's end, the new vertex, and how many records there are; `records` has the
 // new edge, `floats` its floats and the new vertex's. `split_pieces/specs/Pieces.antt` says what each step leaves. An edge's words are start tag, id,
 // end tag, id, curve tag, id, tolerance tag, then its fins.
+#![tactic(auto)]
+
 pub mod floats;
 pub mod records;
 

@@ -1,4 +1,6 @@
 // Inner: why an edge's own records refuse a split, rows 1 to 8 of 01's tests: `edge_stop`. `bounds_stop` is rows 4 to 8. The module `parts` has the rows, each of what it reads.
+#![tactic(auto)]
+
 pub mod parts;
 
 ghost use Rattle.std.specs.Prelude.{◌≡◌, ◌<◌};

@@ -1,6 +1,8 @@
 // Inner: what is told of a refusal, in seven words (specs/Told.antt): the stop at a part of a row, and of two stops the first.
 //
 // split_stop_edge has rows 1 to 8 of a split, split_stop_place rows 9 to 11, split_stop_room rows 12 and 13; call split_stops.
+#![tactic(auto)]
+
 ghost use Rattle.std.specs.Prelude.{◌≡◌};
 ghost use Rattle.split_stop_parts.specs.Told.{tell_at, first_told};
 

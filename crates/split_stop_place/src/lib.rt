@@ -1,4 +1,6 @@
 // Inner: why the place of a split and the edge's fins refuse it, rows 9 to 11 of 01's tests: `place_stop`. The module `fins` has row 11, `faces` its parts from the face on.
+#![tactic(auto)]
+
 pub mod faces;
 pub mod fins;
 

@@ -1,4 +1,6 @@
 // Inner: why wire shells, tables and lists do not take what a split adds, rows 12 and 13 of 01's tests: `room_stop`.
+#![tactic(auto)]
+
 ghost use Rattle.std.specs.Prelude.{◌≡◌, map, ◌≤◌, ◌<◌, length};
 ghost use Rattle.meaning.specs.Lists.{run};
 ghost use Rattle.meaning_stops.specs.Stops.{first_stop};

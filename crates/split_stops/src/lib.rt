@@ -1,5 +1,7 @@
 // For callers: `split_stop`, why a split of an edge is refused for an office: the number of `split_refusal`, and the test and the record that it is refused for. `specs/SplitStop.antt` says
 // what it tells. Inner: the thirteen rows, which ask for what `readable` has tested.
+#![tactic(auto)]
+
 ghost use Rattle.std.specs.Prelude.{◌≡◌};
 ghost use Rattle.meaning_stops.specs.Stops.{first_stop};
 ghost use Rattle.meaning_stops.specs.Splits.{split_stops};

@@ -1,5 +1,7 @@
 // For callers: `split_refusal`, why an edge is not split for an office (W-206). The thirteen tests of euler.rs's `split_line_edge`, in 01's order, before anything is written.
 // Inner: the rows of tests, which ask for what `readable` has tested.
+#![tactic(auto)]
+
 ghost use Rattle.std.specs.Prelude.{◌≡◌};
 ghost use Rattle.meaning.specs.Split.{split_refusal};
 ghost use Rattle.memory_layout.specs.Decode.{decode};

@@ -1,5 +1,7 @@
 // Inner: the words of a split, written behind all its tests: the lists, the records, their counts. `specs/Written.antt` says what they
 // become.
+#![tactic(auto)]
+
 ghost use Rattle.std.specs.Prelude.{◌≡◌, ◌<◌, length};
 ghost use Rattle.memory_layout.specs.Names.{EDGES, EDGE-FINS};
 ghost use Rattle.memory_layout.specs.Layout.{word};

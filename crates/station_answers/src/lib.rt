@@ -2,6 +2,8 @@
 //
 // The family station: what a station's programmer meets. station exports every call for C and Rust; station_answers has the types that the calls in Rattle answer with,
 // apart from the calls, so that what crosses them to C depends on none.
+#![tactic(auto)]
+
 use inquire_bbox::bbox::Aabb;
 
 // The box, or the refusal's number.

@@ -1,4 +1,6 @@
 // Inner: whether bytes are as long as their count of triangles says, a corner of one, and whether the corners are finite and apart (W-210). The reverse of stl_triangles.
+#![tactic(auto)]
+
 ghost use Rattle.std.specs.Prelude.{◌≡◌, true, [], ◌∷◌, ◌+◌, ◌*◌, ◌≤◌, length, drop};
 ghost use Rattle.std.specs.Float.{binary32};
 ghost use Rattle.std.specs.Float.Ieee.{of_bits};

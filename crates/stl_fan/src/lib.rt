@@ -1,4 +1,6 @@
 // Inner: the fan of a side as triangles, written one behind the other where they fit, and what is known of sides that were met (W-209).
+#![tactic(auto)]
+
 ghost use Rattle.std.specs.Prelude.{◌≡◌, true, [], ◌∷◌, map, ◌+◌, ◌≤◌, length};
 ghost use Rattle.memory_layout.specs.Decode.{decode};
 ghost use Rattle.memory_layout.specs.Fit.{Fit};

@@ -1,4 +1,6 @@
 // Inner: the whole body that is built of binary STL, laid over the lent memory (W-210). `read_words` and `read_reals` of `stl_rows` say what it leaves. Other crates call `lay`.
+#![tactic(auto)]
+
 ghost use Rattle.std.specs.Prelude.{◌≡◌, ◌≤◌};
 ghost use Rattle.stl_body.specs.Read.{Mesh};
 ghost use Rattle.stl_rows.specs.Rows.{read_words, read_reals};

@@ -1,4 +1,6 @@
 // Inner: the vertices and the edges of triangles, each numbered where it is first met, and whether an edge has too many fins (W-210). Both numberings are one search, by two tests.
+#![tactic(auto)]
+
 ghost use Rattle.std.specs.Prelude.{◌≡◌, [], ◌∷◌, map, ◌+◌, ◌*◌, ◌/◌, ◌%◌, ◌≤◌, ◌<◌, length, take, drop};
 ghost use Rattle.meaning.specs.Lists.{count, all_below};
 ghost use Rattle.memory_writes.specs.Put.{over};

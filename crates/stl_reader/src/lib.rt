@@ -1,4 +1,6 @@
 // For callers: `read_stl`, a new body from binary STL (W-210), for the office that asks. `specs/Answers.antt` says what it answers and leaves.
+#![tactic(auto)]
+
 ghost use Rattle.std.specs.Prelude.{◌≡◌, ◌+◌, ◌≤◌, ◌<◌, length};
 ghost use Rattle.memory_layout.specs.Fit.{Fit};
 ghost use Rattle.stl_body.specs.Read.{Mesh, stl_triangles, count_in, mesh_of};

@@ -1,4 +1,6 @@
 // Inner: the sides of a body's solid regions drawn one after the other, as the volume meets them (W-209): the walk that measures a drawing and the one that writes it.
+#![tactic(auto)]
+
 ghost use Rattle.std.specs.Prelude.{◌≡◌, true, ◌+◌, ◌<◌, ◌≤◌, ltb, length};
 ghost use Rattle.meaning.specs.Lists.{all, joined};
 ghost use Rattle.meaning.specs.Inquire.{sides_of, sides_refusal};

@@ -1,4 +1,6 @@
 // Inner: a corner in binary32, and one triangle's 50 bytes, written where they fit (W-209). A drawing is measured by the same walk that writes it, with no bytes lent.
+#![tactic(auto)]
+
 ghost use Rattle.std.specs.Prelude.{◌≡◌, ◌≤◌};
 ghost use Rattle.stl_format.specs.Stl.{narrow_point};
 ghost use Rattle.stl_triangles.specs.Spots.{spot_of, spot_bytes, fitted};

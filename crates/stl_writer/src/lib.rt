@@ -1,4 +1,6 @@
 // Inner: how many bytes a body's binary STL takes, and the writing of it (W-209), whatever the body's office; callers ask `office_stl`. specs/Answers.antt says what they answer and leave.
+#![tactic(auto)]
+
 ghost use Rattle.std.specs.Prelude.{◌≡◌, true, ◌++◌, ◌+◌, ◌*◌, ◌≤◌, length, replicate};
 ghost use Rattle.meaning.specs.Inquire.{solid_sides};
 ghost use Rattle.memory_layout.specs.Decode.{decode};

@@ -1,5 +1,7 @@
 // Inner: the faults that plain numbers tell, as structs by value. A list of four is lent to `faults_fill`. A function with a reference to a struct in it is
 // proved by a walk of its code, by hand, so `entries` does nothing else.
+#![tactic(auto)]
+
 ghost use Rattle.std.specs.Prelude.{◌≡◌, ◌/◌, min, length, replicate};
 ghost use Rattle.check_fault_list.specs.List.{no-fault, written};
 

@@ -1,5 +1,7 @@
 // Program: the trial stone's night (W-202, W-211). Splits edge A of the trial stone at 0.25, writes its image, reads it over memory that held other things, in version 1 and then in version 2, and prints each time:
 // how many bytes; how many bodies, regions, shells, faces, loops, fins, edges, vertices, curves, surfaces were read back, and of which version; and last whether the images of those are the first ones.
+#![tactic(auto)]
+
 use image_reader::read_image;
 use image_writer::{Length, write_image};
 use memory_layout::names::{

@@ -2,6 +2,8 @@
 //
 // The family trial_: 01's trial stone, by the calls. trial_inserts lays it out; trialstone, the program that 01 names, counts what there is of it before
 // and behind a split; trial_rows prints the rows of 01's table, the faults of a report by trial_faults.
+#![tactic(auto)]
+
 use edit_core::Inserted;
 use edit_inserts::{
     insert_body, insert_curve, insert_edge, insert_face, insert_fin, insert_loop, insert_region,

@@ -1,4 +1,6 @@
 // Program: the rows of 01's table 'Trial stone', asked of the code and printed: a float as its bits, a refusal as its number.
+#![tactic(auto)]
+
 use check_fault_list::Fault;
 use edit_lists::strike_entry;
 use float_vectors::vector::Point3;

@@ -1,5 +1,7 @@
 // Program: 01's `trialstone`. Splits edge A of the trial stone at 0.25 and prints, before and after: faces, edges, vertices, fins, faults
 // with geometry off.
+#![tactic(auto)]
+
 mod census;
 
 use crate::census::{edges, faces, faults, fins, vertices};

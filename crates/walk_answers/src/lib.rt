@@ -1,5 +1,7 @@
 // Inner: what the three walks of a body give (`body_faces`, `body_edges`, `body_vertices` of model.rs). specs/Calls.antt says which number and which
 // list. Here the walk of one path; the walks themselves are crate `walk_body`.
+#![tactic(auto)]
+
 ghost use Rattle.std.specs.Prelude.{◌≡◌, ◌≤◌, length, replicate};
 ghost use Rattle.meaning.specs.Lists.{firsts};
 ghost use Rattle.memory_layout.specs.Fit.{Lists};

@@ -1,5 +1,7 @@
 // Inner: the three walks of a body (model.rs), whatever its office; callers ask `office_walks`. specs/Calls.antt of crate `walk_answers` says which number and which list they give.
 // Each fills the front of the caller's list and returns how many ids it put there, and its promise tells of the whole list.
+#![tactic(auto)]
+
 ghost use Rattle.std.specs.Prelude.{◌≡◌, length, replicate};
 ghost use Rattle.walk_answers.specs.Calls.{in_front, faces_number, faces_handed, edges_number, edges_handed, vertices_number, vertices_handed};
 

@@ -1,4 +1,6 @@
 // For callers: `fin_vertices` of model.rs. `specs/Answers.antt` says what it answers. Inner: `readable_fin`.
+#![tactic(auto)]
+
 ghost use Rattle.std.specs.Prelude.{◌≡◌, List, Float};
 ghost use Rattle.meaning.specs.Walks.{readable_fin};
 ghost use Rattle.memory_layout.specs.Decode.{decode};

@@ -2,6 +2,8 @@
 //
 // The family walk_: the faces, edges and vertices of a body, and the ends of a fin. Call walk_fin_ends; the walks are asked by an office (office_walks). Read walk_marks,
 // walk_sources, walk_visits, walk_paths, of which a walk is made; walk_answers says what is given, walk_refusals what is refused.
+#![tactic(auto)]
+
 ghost use Rattle.std.specs.Prelude.{◌≡◌, ◌+◌, ◌≤◌, ltb, length, set, replicate};
 ghost use Rattle.meaning.specs.Lists.{all, member};
 ghost use Rattle.walk_marks.specs.Marks.{puts};

@@ -1,6 +1,8 @@
 // Inner: the paths of a body's walks, and whether what they follow is there (`body_faces`, `body_edges`, `body_vertices` of model.rs). The
 // faces walk goes by the body's shells; the edges walk by the loops of those faces, then by the shells; the vertices walk by those
 // edges, then by the shells. What a walk follows exists, so it has room in a list as long as its largest table.
+#![tactic(auto)]
+
 ghost use Rattle.std.specs.Prelude.{◌≡◌, true, [], ◌+◌, ◌<◌, ◌≤◌, ltb, length, replicate};
 ghost use Rattle.meaning.specs.Lists.{all, joined};
 ghost use Rattle.memory_layout.specs.Names.{FACES, FACE-LOOPS, LOOP-FINS};

@@ -1,4 +1,6 @@
 // Inner: which refusal a walk gives before its list is looked at: 9, 8 for short marks, 2.
+#![tactic(auto)]
+
 ghost use Rattle.std.specs.Prelude.{◌≡◌, length, replicate};
 ghost use Rattle.meaning.specs.Walks.{faces_refusal, edges_refusal, vertices_refusal};
 ghost use Rattle.memory_layout.specs.Decode.{decode};

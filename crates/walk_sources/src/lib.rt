@@ -1,6 +1,8 @@
 // Inner: where a walk's ids stand. A source is a record and which of its lists, in one word, 8 times the id and the list's number, and its
 // part the ids that it lists. The faces of a shell, its wire edges and acorn vertices are lists; a loop's list of fins stands for
 // the edges that they name, and an edge's for its ends.
+#![tactic(auto)]
+
 ghost use Rattle.std.specs.Prelude.{◌≡◌, true, map, ◌+◌, ◌*◌, ◌<◌, ◌≤◌, ltb, length};
 ghost use Rattle.meaning.specs.Lists.{all, joined, listed};
 ghost use Rattle.memory_layout.specs.Names.{FINS};

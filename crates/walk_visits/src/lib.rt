@@ -1,5 +1,7 @@
 // Inner: the ids that the sources of a path list, each at its first meeting. Who visits them without a list of his own calls `part` and `fresh`
 // for one source after the other.
+#![tactic(auto)]
+
 ghost use Rattle.std.specs.Prelude.{◌≡◌, cond, [], ◌++◌, ◌+◌, ◌<◌, ◌≤◌, ltb, length, take};
 ghost use Rattle.meaning.specs.Lists.{all, member};
 ghost use Rattle.memory_layout.specs.Fit.{Lists};
