@@ -21,7 +21,7 @@ use memory_reads::vertex_at;
 use memory_records::records::{Edge, Ref};
 
 // The parameter of an end on the curve, where it projected.
-#[derive(Drop)]
+#[derive(Clone, Copy)]
 pub enum Param {
     None,
     At(f64),

@@ -7,7 +7,7 @@ ghost use Rattle.std.specs.Prelude.{◌≡◌, ◌≤◌, ◌+◌, ◌*◌, ◌/
 ghost use Rattle.check_fault_list.specs.List.{told, written};
 
 // "A fault is kind, entity class, id, reason": the class by its table.
-#[derive(Drop)]
+#[derive(Clone, Copy)]
 pub struct Fault {
     pub kind: u32,
     pub class: u32,

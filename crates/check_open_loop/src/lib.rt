@@ -17,7 +17,7 @@ use memory_reads::{edge_at, fin_at};
 use memory_records::records::{Ref, Sense};
 
 // Where a fin starts and ends.
-#[derive(Drop)]
+#[derive(Clone, Copy)]
 pub struct FinEnds {
     pub start: Ref,
     pub end: Ref,

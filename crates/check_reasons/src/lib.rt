@@ -32,7 +32,7 @@ pub const VERTEX: u32 = 7;
 const ASKED: u32 = 8;
 
 // What is fixed for a reason: the fault's kind, and the class of the entity that it is put on.
-#[derive(Drop)]
+#[derive(Clone, Copy)]
 pub struct Reason {
     pub kind: u32,
     pub class: u32,
@@ -70,7 +70,7 @@ const REASONS: [Reason; 26] = [
 
 // How many faults and how many checks not made there were so far. Where the first fault is all that is asked for (W-207), which tells no checks, those are counted from FIRST: so the tally
 // stays two words, which pass in registers, and the full report as fast.
-#[derive(Drop)]
+#[derive(Clone, Copy)]
 pub struct Tally {
     pub faults: usize,
     pub unchecked: usize,

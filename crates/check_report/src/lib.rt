@@ -22,7 +22,7 @@ use station_answers::{Checked, Counts, Sawable};
 use walk_marks::clear;
 
 // A fault: kind, class by its table, id, reason.
-#[derive(Drop)]
+#[derive(Clone, Copy)]
 pub struct FaultFound {
     pub kind: u32,
     pub class: u32,
@@ -31,7 +31,7 @@ pub struct FaultFound {
 }
 
 // The first fault, none, or the refusal's number.
-#[derive(Drop)]
+#[derive(Clone, Copy)]
 pub enum FirstFault {
     None,
     Is(FaultFound),

@@ -17,7 +17,7 @@ use split_segment::refusals::{then, unless};
 use walk_marks::clear;
 
 // The first refusal of a stone, or 0; how many stones were added, and their total in two words.
-#[derive(Drop)]
+#[derive(Clone, Copy)]
 pub struct CourseSum {
     pub refused: u32,
     pub stones: u64,

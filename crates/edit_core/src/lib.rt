@@ -10,7 +10,7 @@ use memory_readable::readable;
 use memory_writes::put::{put_new, put_reals, put_words};
 
 // The new record's id, or the refusal's number.
-#[derive(Drop)]
+#[derive(Clone, Copy)]
 pub enum Inserted {
     At(u32),
     Refused(u32),

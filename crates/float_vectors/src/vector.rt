@@ -4,7 +4,7 @@ ghost use Rattle.std.specs.Float.Ieee.Scale.{finite};
 ghost use Rattle.float_vectors.specs.Space.{minus, along, sum_v, minus_v, scaled_v, dot_v, cross_v, finite_point};
 
 // A displacement or a direction.
-#[derive(Drop)]
+#[derive(Clone, Copy)]
 pub struct Vec3 {
     pub x: f64,
     pub y: f64,
@@ -12,7 +12,7 @@ pub struct Vec3 {
 }
 
 // A position.
-#[derive(Drop)]
+#[derive(Clone, Copy)]
 pub struct Point3 {
     pub x: f64,
     pub y: f64,

@@ -7,7 +7,7 @@ ghost use Rattle.geom_carriers.specs.Queries.{line_answer, plane_answer};
 use geom_lines_planes::curve::Line;
 use geom_lines_planes::surface::Plane;
 
-#[derive(Drop)]
+#[derive(Clone, Copy)]
 pub enum Carrier {
     Line(Line),
     Plane(Plane),
@@ -15,20 +15,20 @@ pub enum Carrier {
 }
 
 // What a table has under an id.
-#[derive(Drop)]
+#[derive(Clone, Copy)]
 pub enum Found {
     There(Carrier),
     Missing,
 }
 
 // The line or the plane under an id, or the refusal's number.
-#[derive(Drop)]
+#[derive(Clone, Copy)]
 pub enum LineFound {
     Is(Line),
     Refused(u32),
 }
 
-#[derive(Drop)]
+#[derive(Clone, Copy)]
 pub enum PlaneFound {
     Is(Plane),
     Refused(u32),

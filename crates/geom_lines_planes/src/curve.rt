@@ -5,7 +5,7 @@ ghost use Rattle.geom_lines_planes.specs.Geometry.{line_point, nearest};
 use float_vectors::vector::{Point3, Vec3};
 
 // The infinite line origin + direction · t.
-#[derive(Drop)]
+#[derive(Clone, Copy)]
 pub struct Line {
     pub origin: Point3,
     pub direction: Vec3,

@@ -5,7 +5,7 @@ ghost use Rattle.geom_lines_planes.specs.Geometry.{size_f, plane_distance};
 use float_vectors::vector::{Point3, Vec3};
 
 // The plane through origin; normal is the z of the source's frame.
-#[derive(Drop)]
+#[derive(Clone, Copy)]
 pub struct Plane {
     pub origin: Point3,
     pub normal: Vec3,

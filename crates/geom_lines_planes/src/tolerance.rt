@@ -4,14 +4,14 @@ ghost use Rattle.geom_lines_planes.specs.Geometry.{rule, effective};
 ghost use Rattle.geom_lines_planes.specs.declared.tolerance.Version.TheVariants.{Second};
 
 // A record's own tolerance, or none: then the session's holds.
-#[derive(Drop)]
+#[derive(Clone, Copy)]
 pub enum Tolerance {
     Own(f64),
     Session,
 }
 
 // The version of the drawing practice that a model goes by.
-#[derive(Drop)]
+#[derive(Clone, Copy)]
 pub enum Version {
     First,
     Second,

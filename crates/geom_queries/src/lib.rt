@@ -12,28 +12,28 @@ use geom_lines_planes::curve::Line;
 use geom_lines_planes::surface::Plane;
 
 // A point of a curve, or the refusal's number.
-#[derive(Drop)]
+#[derive(Clone, Copy)]
 pub enum Evaluated {
     At(Point3),
     Refused(u32),
 }
 
 // The closest point of a curve, and its parameter.
-#[derive(Drop)]
+#[derive(Clone, Copy)]
 pub struct CurveProjection {
     pub param: f64,
     pub point: Point3,
 }
 
 // A projection, or the refusal's number.
-#[derive(Drop)]
+#[derive(Clone, Copy)]
 pub enum Projected {
     At(CurveProjection),
     Refused(u32),
 }
 
 // A distance, or the refusal's number.
-#[derive(Drop)]
+#[derive(Clone, Copy)]
 pub enum Measured {
     Is(f64),
     Refused(u32),

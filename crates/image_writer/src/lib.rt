@@ -17,7 +17,7 @@ use memory_layout::names::VERSION;
 use memory_readable::{readable, reals_row, words_row};
 
 // How many bytes, or the refusal's number.
-#[derive(Drop)]
+#[derive(Clone, Copy)]
 pub enum Length {
     Is(usize),
     Refused(u32),

@@ -6,14 +6,14 @@ ghost use Rattle.inquire_bbox.specs.Boxes.{included, extent_of};
 use float_vectors::vector::Point3;
 
 // A box with its lower and its upper corner.
-#[derive(Drop)]
+#[derive(Clone, Copy)]
 pub struct Aabb {
     pub min: Point3,
     pub max: Point3,
 }
 
 // What is known of points that were met one after the other: whether there are none, whether all are finite, and their box.
-#[derive(Drop)]
+#[derive(Clone, Copy)]
 pub struct Extent {
     pub empty: bool,
     pub finite: bool,

@@ -11,7 +11,7 @@ use float_grid::{on_grid, sixteenths};
 use float_vectors::vector::Point3;
 
 // A point, or the way between two, in sixteenths.
-#[derive(Drop)]
+#[derive(Clone, Copy)]
 pub struct Corner {
     pub x: i64,
     pub y: i64,

@@ -21,7 +21,7 @@ use memory_lists::list;
 use split_segment::refusals::then;
 
 // What is known of sides that were met: the first refusal, whether there are none, and the sum of their volumes or their weight, nothing where one is refused.
-#[derive(Drop)]
+#[derive(Clone, Copy)]
 pub struct Tally {
     pub refused: u32,
     pub empty: bool,

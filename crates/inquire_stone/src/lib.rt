@@ -11,7 +11,7 @@ use inquire_weight::Weight;
 use split_segment::refusals::{then, unless};
 
 // The refusal's number, or 0 and six times the volume, plus - minus.
-#[derive(Drop)]
+#[derive(Clone, Copy)]
 pub struct Stone {
     pub refused: u32,
     pub plus: u64,

@@ -19,7 +19,7 @@ use memory_layout::names::{AT_FACE_FRONT, FACES};
 use std::num::wrapping_add_u64;
 
 // What is known of sides that were met. Above 4,096 the triangles are 4,097; there, and where a point is off the grid, the sums are 0.
-#[derive(Drop)]
+#[derive(Clone, Copy)]
 pub struct Weight {
     pub off: bool,
     pub triangles: usize,

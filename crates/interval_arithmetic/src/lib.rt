@@ -16,13 +16,13 @@ use float_order::{next_down, next_up};
 
 // A closed interval of numbers, which holds the exact value that it stands for. A bound that is an
 // infinity bounds nothing.
-#[derive(Drop)]
+#[derive(Clone, Copy)]
 pub struct Interval {
     pub lo: f64,
     pub hi: f64,
 }
 
-#[derive(Drop)]
+#[derive(Clone, Copy)]
 pub enum Sign {
     Negative,
     Zero,

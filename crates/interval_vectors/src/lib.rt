@@ -7,7 +7,7 @@ ghost use Rattle.interval_vectors.specs.Vectors.{difference_i, point_i3, vector_
 use float_vectors::vector::{Point3, Vec3};
 use interval_arithmetic::Interval;
 
-#[derive(Drop)]
+#[derive(Clone, Copy)]
 pub struct Interval3 {
     pub x: Interval,
     pub y: Interval,

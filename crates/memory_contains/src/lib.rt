@@ -12,28 +12,28 @@ use memory_layout::names::{
 use memory_readable::readable;
 
 // The session precision, or the refusal's number.
-#[derive(Drop)]
+#[derive(Clone, Copy)]
 pub enum PrecisionFound {
     Is(f64),
     Refused(u32),
 }
 
 // The version, 1 or 2, or the refusal's number.
-#[derive(Drop)]
+#[derive(Clone, Copy)]
 pub enum VersionFound {
     Is(u32),
     Refused(u32),
 }
 
 // Whether an entity exists, or the refusal's number.
-#[derive(Drop)]
+#[derive(Clone, Copy)]
 pub enum Contained {
     Is(bool),
     Refused(u32),
 }
 
 // An entity of any class.
-#[derive(Drop)]
+#[derive(Clone, Copy)]
 pub enum EntityRef {
     Body(usize),
     Region(usize),

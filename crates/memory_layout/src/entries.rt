@@ -1,6 +1,6 @@
 // An entry, or the refusal's number.
 
-#[derive(Drop)]
+#[derive(Clone, Copy)]
 pub enum Entry {
     Is(u32),
     Refused(u32),

@@ -17,55 +17,55 @@ use memory_reads::{
 use memory_records::records::{Body, Edge, Face, Fin, Loop, Region, Shell, Vertex};
 
 // A record, or the refusal's number.
-#[derive(Drop)]
+#[derive(Clone, Copy)]
 pub enum BodyFound {
     Is(Body),
     Refused(u32),
 }
 
-#[derive(Drop)]
+#[derive(Clone, Copy)]
 pub enum RegionFound {
     Is(Region),
     Refused(u32),
 }
 
-#[derive(Drop)]
+#[derive(Clone, Copy)]
 pub enum ShellFound {
     Is(Shell),
     Refused(u32),
 }
 
-#[derive(Drop)]
+#[derive(Clone, Copy)]
 pub enum FaceFound {
     Is(Face),
     Refused(u32),
 }
 
-#[derive(Drop)]
+#[derive(Clone, Copy)]
 pub enum LoopFound {
     Is(Loop),
     Refused(u32),
 }
 
-#[derive(Drop)]
+#[derive(Clone, Copy)]
 pub enum FinFound {
     Is(Fin),
     Refused(u32),
 }
 
-#[derive(Drop)]
+#[derive(Clone, Copy)]
 pub enum EdgeFound {
     Is(Edge),
     Refused(u32),
 }
 
-#[derive(Drop)]
+#[derive(Clone, Copy)]
 pub enum VertexFound {
     Is(Vertex),
     Refused(u32),
 }
 
-#[derive(Drop)]
+#[derive(Clone, Copy)]
 pub enum CarrierFound {
     Is(Carrier),
     Refused(u32),

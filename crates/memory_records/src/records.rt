@@ -15,7 +15,7 @@ use geom_lines_planes::tolerance::{Tolerance, Version, effective_tolerance};
 use memory_layout::names::{AT_CARRIER_TAG, PRECISION, VERSION};
 
 // What a body is allowed to contain.
-#[derive(Drop)]
+#[derive(Clone, Copy)]
 pub enum BodyKind {
     Acorn,
     Wire,
@@ -25,33 +25,33 @@ pub enum BodyKind {
 }
 
 // Orientation of an entity relative to the geometry or entity that it uses.
-#[derive(Drop)]
+#[derive(Clone, Copy)]
 pub enum Sense {
     Positive,
     Negative,
 }
 
 // An optional id.
-#[derive(Drop)]
+#[derive(Clone, Copy)]
 pub enum Ref {
     None,
     Is(u32),
 }
 
-#[derive(Drop)]
+#[derive(Clone, Copy)]
 pub struct Body {
     pub kind: BodyKind,
     pub regions: u32,
 }
 
-#[derive(Drop)]
+#[derive(Clone, Copy)]
 pub struct Region {
     pub body: u32,
     pub solid: bool,
     pub shells: u32,
 }
 
-#[derive(Drop)]
+#[derive(Clone, Copy)]
 pub struct Shell {
     pub region: u32,
     pub faces: u32,
@@ -59,7 +59,7 @@ pub struct Shell {
     pub acorn_vertices: u32,
 }
 
-#[derive(Drop)]
+#[derive(Clone, Copy)]
 pub struct Face {
     pub front: Ref,
     pub back: Ref,
@@ -68,13 +68,13 @@ pub struct Face {
     pub loops: u32,
 }
 
-#[derive(Drop)]
+#[derive(Clone, Copy)]
 pub struct Loop {
     pub face: u32,
     pub fins: u32,
 }
 
-#[derive(Drop)]
+#[derive(Clone, Copy)]
 pub struct Fin {
     pub owner: u32,
     pub edge: u32,
@@ -82,7 +82,7 @@ pub struct Fin {
     pub pcurve: bool,
 }
 
-#[derive(Drop)]
+#[derive(Clone, Copy)]
 pub struct Edge {
     pub start: Ref,
     pub end: Ref,
@@ -91,7 +91,7 @@ pub struct Edge {
     pub fins: u32,
 }
 
-#[derive(Drop)]
+#[derive(Clone, Copy)]
 pub struct Vertex {
     pub point: Point3,
     pub tolerance: Tolerance,

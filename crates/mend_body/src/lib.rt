@@ -16,7 +16,7 @@ use mend_writes::apply;
 use walk_marks::clear;
 
 // The refusal's number, and where it is 0 how many changes there are.
-#[derive(Drop)]
+#[derive(Clone, Copy)]
 pub struct Mending {
     pub refused: u32,
     pub changes: usize,

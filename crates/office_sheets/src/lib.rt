@@ -16,7 +16,7 @@ use split_segment::refusals::{then, unless};
 use walk_marks::clear;
 
 // The refusal's number, or 0, and the sheet behind the call, which a refusal leaves as found.
-#[derive(Drop)]
+#[derive(Clone, Copy)]
 pub struct TakenIn {
     pub refused: u32,
     pub sheet: StoneSheet,

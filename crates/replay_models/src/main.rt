@@ -13,7 +13,7 @@ use crate::rows::{Row, float, row_of, sum, sum_floats};
 // The capacities of every model of the list.
 const ROOM: [usize; 10] = [4, 8, 8, 24, 24, 128, 64, 64, 64, 24];
 
-#[derive(Drop)]
+#[derive(Clone, Copy)]
 struct Counts {
     models: u64,
     answers: u64,
@@ -21,7 +21,7 @@ struct Counts {
 }
 
 // Whether there was a row, and the counts with it.
-#[derive(Drop)]
+#[derive(Clone, Copy)]
 struct After {
     more: bool,
     counts: Counts,

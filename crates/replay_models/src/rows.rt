@@ -4,7 +4,7 @@ ghost use Rattle.std.specs.Prelude.{◌<◌, ◌≤◌};
 use replay_digits::{bits_of, hex};
 
 // What is asked, and seven words.
-#[derive(Drop)]
+#[derive(Clone, Copy)]
 pub struct Row {
     pub op: u32,
     pub a: u32,

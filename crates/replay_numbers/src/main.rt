@@ -6,13 +6,13 @@ ghost use Rattle.std.specs.Prelude.{◌≤◌};
 
 use replay_digits::{bits_of, float_of, hex};
 
-#[derive(Drop)]
+#[derive(Clone, Copy)]
 struct Counts {
     rows: u64,
     differ: u64,
 }
 
-#[derive(Drop)]
+#[derive(Clone, Copy)]
 struct After {
     more: bool,
     counts: Counts,

@@ -12,7 +12,7 @@ ghost use Rattle.sheet_words.specs.Totals.{words_of_total};
 use std::num;
 
 // The number of stones, the exact total in two words, and the largest stone: its body and six times its volume. Signed numbers are two's complement; five zeros are a new sheet.
-#[derive(Drop)]
+#[derive(Clone, Copy)]
 pub struct StoneSheet {
     pub stones: u64,
     pub low: u64,
@@ -22,7 +22,7 @@ pub struct StoneSheet {
 }
 
 // A total in two words, since a function returns one value.
-#[derive(Drop)]
+#[derive(Clone, Copy)]
 pub struct Total {
     pub low: u64,
     pub high: u64,

@@ -22,7 +22,7 @@ use slab_rules::{Verdict, body_verdict};
 use walk_marks::clear;
 
 // The area in all of an accepted body, the first broken rule and where, or the refusal's number.
-#[derive(Drop)]
+#[derive(Clone, Copy)]
 pub enum Profile {
     Accepted(u64),
     Broken(Verdict),

@@ -14,7 +14,7 @@ use slab_faces::{ENDS, LEVEL, NORMAL, ONE_LOOP, faces_tested};
 use walk_paths::{edge_path, vertex_path};
 
 // The rule, from 1, and the entity that breaks it; rule 0 and entity 0 where none is broken.
-#[derive(Drop)]
+#[derive(Clone, Copy)]
 pub struct Verdict {
     pub rule: u32,
     pub entity: u64,

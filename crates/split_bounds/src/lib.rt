@@ -14,14 +14,14 @@ use crate::ends::{ends_refusal, segment_at};
 use memory_readable::readable;
 use split_segment::segment::span_refusal;
 
-#[derive(Drop)]
+#[derive(Clone, Copy)]
 pub struct ParamRange {
     pub lo: f64,
     pub hi: f64,
 }
 
 // The parameters of the ends, or the refusal's number.
-#[derive(Drop)]
+#[derive(Clone, Copy)]
 pub enum Bounds {
     Is(ParamRange),
     Refused(u32),

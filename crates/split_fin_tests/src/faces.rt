@@ -16,7 +16,7 @@ use memory_reads::carriers::surface_found;
 use split_segment::refusals::{then, unless};
 
 // The points at lo, hi and the split parameter, and the edge's tolerance.
-#[derive(Drop)]
+#[derive(Clone, Copy)]
 pub struct Cut {
     pub lo: Point3,
     pub hi: Point3,

@@ -9,7 +9,7 @@ use geom_lines_planes::curve::Line;
 use geom_signs::{increasing, span};
 use interval_arithmetic::Sign;
 
-#[derive(Drop)]
+#[derive(Clone, Copy)]
 pub struct Segment {
     pub line: Line,
     pub start: Point3,

@@ -7,7 +7,7 @@ ghost use Rattle.std.specs.Prelude.{◌≡◌};
 ghost use Rattle.split_stop_parts.specs.Told.{tell_at, first_told};
 
 // The refusal's number, or 0; its row and part; the record's class and id; those of the record that names it. The class 10 is no record.
-#[derive(Drop)]
+#[derive(Clone, Copy)]
 pub struct Stop {
     pub number: u32,
     pub row: u32,

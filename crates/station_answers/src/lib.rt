@@ -7,21 +7,21 @@
 use inquire_bbox::bbox::Aabb;
 
 // The box, or the refusal's number.
-#[derive(Drop)]
+#[derive(Clone, Copy)]
 pub enum BoxFound {
     Is(Aabb),
     Refused(u32),
 }
 
 // The volume, or the refusal's number.
-#[derive(Drop)]
+#[derive(Clone, Copy)]
 pub enum Volume {
     Is(f64),
     Refused(u32),
 }
 
 // The edge, kept as the first half, the second half, and the vertex between them.
-#[derive(Drop)]
+#[derive(Clone, Copy)]
 pub struct EdgeSplit {
     pub original_edge: u32,
     pub new_edge: u32,
@@ -29,14 +29,14 @@ pub struct EdgeSplit {
 }
 
 // What a split made, or the refusal's number.
-#[derive(Drop)]
+#[derive(Clone, Copy)]
 pub enum Split {
     Is(EdgeSplit),
     Refused(u32),
 }
 
 // How many faults there are, how many were kept, and how many checks could not be made.
-#[derive(Drop)]
+#[derive(Clone, Copy)]
 pub struct Counts {
     pub faults: usize,
     pub kept: usize,
@@ -44,14 +44,14 @@ pub struct Counts {
 }
 
 // The report's counts, or the refusal's number.
-#[derive(Drop)]
+#[derive(Clone, Copy)]
 pub enum Checked {
     Is(Counts),
     Refused(u32),
 }
 
 // Whether a body is fit to saw, or the refusal's number.
-#[derive(Drop)]
+#[derive(Clone, Copy)]
 pub enum Sawable {
     Is(bool),
     Refused(u32),

@@ -18,7 +18,7 @@ use memory_layout::names::{AT_FACE_FRONT, FACES};
 use stl_triangles::{narrow_point, put_triangle, spot_of};
 
 // What is known of sides that were met: whether all their coordinates are binary32 values, and how many triangles they have.
-#[derive(Drop)]
+#[derive(Clone, Copy)]
 pub struct Pen {
     pub narrow: bool,
     pub count: usize,

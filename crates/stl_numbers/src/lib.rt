@@ -12,7 +12,7 @@ use float_vectors::vector::Point3;
 use stl_corners::{corner_in, same_point};
 
 // An edge by its vertices' numbers.
-#[derive(Drop)]
+#[derive(Clone, Copy)]
 pub struct Ends {
     pub from: u32,
     pub to: u32,

@@ -10,7 +10,7 @@ use float_vectors::vector::Point3;
 use image_bytes::{put_mark, put_words};
 
 // A corner: its coordinates' patterns in binary32.
-#[derive(Drop)]
+#[derive(Clone, Copy)]
 pub struct Spot {
     pub x: u32,
     pub y: u32,

@@ -22,14 +22,14 @@ use stl_fan::Pen;
 use stl_regions::draw_regions;
 
 // How many bytes, or the refusal's number.
-#[derive(Drop)]
+#[derive(Clone, Copy)]
 pub enum StlLength {
     Is(usize),
     Refused(u32),
 }
 
 // The refusal's number, or 0 and the number of triangles.
-#[derive(Drop)]
+#[derive(Clone, Copy)]
 struct Sketch {
     refused: u32,
     count: usize,

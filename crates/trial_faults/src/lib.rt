@@ -8,7 +8,7 @@ ghost use Rattle.check_fault_list.specs.List.{no-fault, written};
 use check_fault_list::{Fault, faults_fill};
 
 // How many were kept, and the list, which begins with them.
-#[derive(Drop)]
+#[derive(Clone, Copy)]
 pub struct Kept {
     pub count: usize,
     pub list: [Fault; 4],

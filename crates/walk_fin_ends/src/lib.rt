@@ -14,14 +14,14 @@ use memory_reads::{edge_at, fin_at};
 use memory_records::records::{Ref, Sense};
 
 // The ends of a fin's edge, in the fin's direction.
-#[derive(Drop)]
+#[derive(Clone, Copy)]
 pub struct Tips {
     pub start: Ref,
     pub end: Ref,
 }
 
 // Those, or the refusal's number.
-#[derive(Drop)]
+#[derive(Clone, Copy)]
 pub enum FinVertices {
     Is(Tips),
     Refused(u32),
