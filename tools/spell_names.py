@@ -11,6 +11,10 @@ import os
 import re
 
 WORD = re.compile(r"(?<![\w'])[a-z][A-Za-z0-9_]*[A-Z][A-Za-z0-9_]*(?!\w)")
+# Constants of src/ have the Rust's spelling in a clause too (`AT-LOOP-FACE` is `AT_LOOP_FACE`).
+CONSTANT = re.compile(r"(?<![\w'-])[A-Z][A-Z0-9]+(?:-[A-Z][A-Z0-9]*)+(?![\w'-])")
+# Definitions, which are no lemmas, of two words.
+WORDS = re.compile(r"(?<![\w'-])(words-at|reals-at|of-corners|no-fault|last-two|split-stone)(?![\w'-])")
 # Words of the kit's library, or of an older one: port.py and what follows it turn them.
 KIT = re.compile(r"(getD|isSome|leZ|ltZ|filterMap|not_T|(mut|shr|uint|walk)_\w+)")
 # The lemma that would fall together with a definition of its file, by the files that name it.
@@ -60,6 +64,8 @@ def main():
     for path in code + pages:
         text = read(path)
         turned = WORD.sub(turn, text)
+        for it in (CONSTANT, WORDS):
+            turned = it.sub(lambda m: m[0].replace("-", "_"), turned)
         if turned != text:
             write(path, turned)
     print(f"{len(words)} words")

@@ -1,7 +1,7 @@
 // The fields of a record as a C program hands them over: the numbers of `values`, without the lists. `specs/Given.antt`
 // says which fields they name.
 ghost use Rattle.std.specs.Prelude.{◌≡◌, ◌<◌};
-ghost use Rattle.memory_layout.specs.Names.{FLOAT-VERTEX-POINT};
+ghost use Rattle.memory_layout.specs.Names.{FLOAT_VERTEX_POINT};
 ghost use Rattle.memory_layout.specs.Decode.{point_at};
 ghost use Rattle.c_lent.specs.Lent.{was};
 ghost use Rattle.c_values.specs.Given.{body_known, region_known, face_known, fin_known, own_known, carrier_known, entity_of};
@@ -55,7 +55,7 @@ pub fn carrier_known(value: &[u32; 1]) -> bool
 }
 
 pub fn point_of(floats: &[f64; 4]) -> Point3
-    ensures { result ≡ point_at (was floats) FLOAT-VERTEX-POINT }
+    ensures { result ≡ point_at (was floats) FLOAT_VERTEX_POINT }
 {
     Point3 {
         x: floats[0],

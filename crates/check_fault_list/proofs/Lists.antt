@@ -13,7 +13,7 @@ use mathlib.Core.List.{List, [], ◌∷◌}
 use lib.ListN.{length, set, length-set}
 use lib.Seq.{get_or-set_same, get_or-set_other}
 use Rattle.check_fault_list.specs.declared.Fault.{Fault}
-use Rattle.check_fault_list.specs.List.{no-fault, at, told, written}
+use Rattle.check_fault_list.specs.List.{no_fault, at, told, written}
 
 pub set_past : {X : Type 0} (l : List X) (i : ℕ) (x : X) → length l ≤ i → set l i x ≡ l
 set_past [] i x h = refl
@@ -26,7 +26,7 @@ length-written l ns (suc k) = length-set (written l ns k) k (told ns k) ∙ leng
 
 pub written_after : (l : List Fault) (ns : List ℕ) (k j : ℕ) → k ≤ j → at (written l ns k) j ≡ at l j
 written_after l ns zero j h = refl
-written_after l ns (suc k) j h = get_or-set_other (written l ns k) k j (told ns k) no-fault (λ e. omega (arith, h, e)) ∙ written_after l ns k j (omega (arith, h))
+written_after l ns (suc k) j h = get_or-set_other (written l ns k) k j (told ns k) no_fault (λ e. omega (arith, h, e)) ∙ written_after l ns k j (omega (arith, h))
 
 -- the last entry or one before it
 last-or-before : (j k : ℕ) → j < suc k → (j ≡ k) ⊎ (j < k)
@@ -35,6 +35,6 @@ last-or-before j k h = eq-or-lt_of_le (le_of_suc-le-suc h)
 pub written-first : (l : List Fault) (ns : List ℕ) (k j : ℕ) → k ≤ length l → j < k → at (written l ns k) j ≡ told ns j
 written-first l ns zero j fit h = absurd (not-suc-le-zero h)
 written-first l ns (suc k) j fit h = elim (last-or-before j k h) [
-  | inl e ↦ ap (λ (i : ℕ). at (written l ns (suc k)) i) e ∙ get_or-set_same (written l ns k) k (told ns k) no-fault (subst (λ (m : ℕ). k < m) (sym (length-written l ns k)) fit) ∙ ap (λ (i : ℕ). told ns i) (sym e)
-  | inr b ↦ get_or-set_other (written l ns k) k j (told ns k) no-fault (λ e. omega (arith, b, e)) ∙ written-first l ns k j (omega (arith, fit)) b
+  | inl e ↦ ap (λ (i : ℕ). at (written l ns (suc k)) i) e ∙ get_or-set_same (written l ns k) k (told ns k) no_fault (subst (λ (m : ℕ). k < m) (sym (length-written l ns k)) fit) ∙ ap (λ (i : ℕ). told ns i) (sym e)
+  | inr b ↦ get_or-set_other (written l ns k) k j (told ns k) no_fault (λ e. omega (arith, b, e)) ∙ written-first l ns k j (omega (arith, fit)) b
 ]

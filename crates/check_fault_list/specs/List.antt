@@ -3,11 +3,11 @@ use Rattle.std.specs.Prelude.{ℕ, zero, suc, ◌+◌, ◌*◌, List, get_or, se
 use Rattle.check_fault_list.specs.declared.Fault.{Fault}
 
 -- what lies past the end of a list
-abbrev pub no-fault : Fault
-no-fault = record { kind = 0; class = 0; id = 0; reason = 0 }
+abbrev pub no_fault : Fault
+no_fault = record { kind = 0; class = 0; id = 0; reason = 0 }
 
 abbrev pub at : List Fault → ℕ → Fault
-at l i = get_or l i no-fault
+at l i = get_or l i no_fault
 
 -- fault k of a list of plain numbers, four to a fault
 abbrev pub told : List ℕ → ℕ → Fault

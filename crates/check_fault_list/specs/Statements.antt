@@ -13,7 +13,7 @@ use Rattle.check_reasons.specs.Log.{class_number, faults_words}
 use Rattle.walk_answers.specs.Calls.{handed, in_front}
 use Rattle.check_report.specs.Calls.{report_on, check_number, check_words}
 use Rattle.check_fault_list.specs.declared.Fault.{Fault}
-use Rattle.check_fault_list.specs.List.{no-fault, told, written}
+use Rattle.check_fault_list.specs.List.{no_fault, told, written}
 
 -- a fault of the report as an entry of the list
 abbrev pub entry_of : Faults.Fault → Fault
@@ -34,8 +34,8 @@ written-split : (l : List Fault) (ns : List ℕ) (k : ℕ) → k ≤ length l �
 unfolding first_told
 written-split l ns zero h = refl
 written-split l ns (suc k) h =
-    ap (λ d. set d k (told ns k)) (written-split l ns k (omega arith) ∙ ap (λ d. first_told ns k ++ d) (drop-cons l k no-fault h))
-    ∙ set_at (first_told ns k) (get_or l k no-fault) (drop (suc k) l) (told ns k) k (first-length ns k)
+    ap (λ d. set d k (told ns k)) (written-split l ns k (omega arith) ∙ ap (λ d. first_told ns k ++ d) (drop-cons l k no_fault h))
+    ∙ set_at (first_told ns k) (get_or l k no_fault) (drop (suc k) l) (told ns k) k (first-length ns k)
     ∙ sym (append_snoc (first_told ns k) (told ns k) (drop (suc k) l))
 
 -- ---- what the words of faults tell

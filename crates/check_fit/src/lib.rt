@@ -5,7 +5,7 @@
 ghost use Rattle.std.specs.Prelude.{◌≡◌, true, ◌&&◌, List, ◌<◌, ltb, Float};
 ghost use Rattle.meaning.specs.Lists.{all, any};
 ghost use Rattle.meaning.specs.Faults.{whole_solid};
-ghost use Rattle.memory_layout.specs.Names.{SHELLS, FACES, REGION-SHELLS};
+ghost use Rattle.memory_layout.specs.Names.{SHELLS, FACES, REGION_SHELLS};
 ghost use Rattle.memory_layout.specs.Layout.{word};
 ghost use Rattle.memory_layout.specs.Decode.{decode};
 ghost use Rattle.memory_layout.specs.Fit.{Lists};
@@ -46,7 +46,7 @@ fn any_face(room: &[usize; 10], words: &[u32], shells: &[u32]) -> bool
 // Is the region solid, and does one of its shells list a face?
 fn solid_region(room: &[usize; 10], words: &[u32], region: usize) -> bool
     requires lists { Lists room.now words.now }
-    requires region_value { followed room.now words.now REGION-SHELLS region ≡ true }
+    requires region_value { followed room.now words.now REGION_SHELLS region ≡ true }
     ensures { result ≡ solid_in room.now words.now region }
 {
     let w = words_of(room, words, REGIONS, region);
@@ -58,7 +58,7 @@ fn solid_region(room: &[usize; 10], words: &[u32], region: usize) -> bool
 // Is one of the regions so?
 fn solid_face(room: &[usize; 10], words: &[u32], regions: &[u32]) -> bool
     requires lists { Lists room.now words.now }
-    requires regions_value { all (followed room.now words.now REGION-SHELLS) regions.now ≡ true }
+    requires regions_value { all (followed room.now words.now REGION_SHELLS) regions.now ≡ true }
     ensures { result ≡ any (solid_in room.now words.now) regions.now }
 {
     let mut found = false;

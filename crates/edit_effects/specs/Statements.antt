@@ -12,7 +12,7 @@ use Rattle.geom_lines_planes.specs.declared.tolerance.Tolerance.{Tolerance}
 use Rattle.geom_carriers.specs.declared.Carrier.{Carrier}
 use Rattle.meaning.specs.Model.{Model, Body, Region, Shell, Face, Loop, Fin, Edge, Vertex}
 use Rattle.meaning.specs.Edits.{tolerance_ok, inserted, edited}
-use Rattle.memory_layout.specs.Names.{BODIES, REGIONS, SHELLS, FACES, LOOPS, FINS, EDGES, VERTICES, CURVES, SURFACES, AT-FIN-PCURVE}
+use Rattle.memory_layout.specs.Names.{BODIES, REGIONS, SHELLS, FACES, LOOPS, FINS, EDGES, VERTICES, CURVES, SURFACES, AT_FIN_PCURVE}
 use Rattle.memory_layout.specs.Layout.{words_of, reals_of}
 use Rattle.memory_layout.specs.Decode.{list_at, office_of, decode}
 use Rattle.memory_layout.specs.Readable.{record_ok}
@@ -230,7 +230,7 @@ module _ (room w : List ℕ) (x : List Float) where
 
   -- the mark of a fin that has a pcurve
   pub set-fin-geometry : (i : ℕ)
-      → Sets room w x true FINS i AT-FIN-PCURVE (mark true ∷ []) []
+      → Sets room w x true FINS i AT_FIN_PCURVE (mark true ∷ []) []
       (with_fins m (edited m.fins i (λ f. record { owner = f.owner; edge = f.edge; sense = f.sense; pcurve = true })))
   unfolding decode
   set-fin-geometry i =

@@ -6,7 +6,7 @@ ghost use Rattle.meaning.specs.Edits.{tolerance_ok};
 ghost use Rattle.memory_offices.specs.Sight.{body_asked};
 ghost use Rattle.edit_core.specs.Answers.{edit_number, edit_words, edit_reals};
 ghost use Rattle.edit_fields.specs.Fields.{kind_fields, region_fields, face_fields, fin_fields, edge_fields, vertex_fields, carrier_fields, edge_floats, vertex_floats, carrier_floats, shell_fields, loop_fields};
-ghost use Rattle.memory_layout.specs.Names.{BODIES, REGIONS, FACES, FINS, EDGES, VERTICES, CURVES, SURFACES, SHELLS, LOOPS, AT-FIN-PCURVE};
+ghost use Rattle.memory_layout.specs.Names.{BODIES, REGIONS, FACES, FINS, EDGES, VERTICES, CURVES, SURFACES, SHELLS, LOOPS, AT_FIN_PCURVE};
 ghost use Rattle.edit_core.specs.Facts.{Fields};
 ghost use Rattle.edit_tags.specs.Tags.{mark};
 
@@ -77,7 +77,7 @@ pub fn set_loop(
 // The mark of a fin that has a pcurve; its other fields are kept.
 pub fn set_fin_geometry(room: &[usize; 10], words: &mut [u32], reals: &mut [f64], id: usize) -> u32
     ensures answer { result ≡ edit_number room.now words.old reals.old true FINS id }
-    ensures tables { words.new ≡ edit_words room.now words.old reals.old true FINS id AT-FIN-PCURVE (mark true ∷ []) }
+    ensures tables { words.new ≡ edit_words room.now words.old reals.old true FINS id AT_FIN_PCURVE (mark true ∷ []) }
     ensures floats { reals.new ≡ edit_reals room.now words.old reals.old true FINS id [] }
 {
     let fields = [1];

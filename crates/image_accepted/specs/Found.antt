@@ -11,7 +11,7 @@ use Rattle.meaning.specs.Lists.{run, joined, all_below}
 use Rattle.meaning_list_laws.specs.Lists.{joined_snoc}
 use Rattle.meaning_list_laws.specs.Tests.{and_assoc, and-true, all_below-none, all_below-suc}
 use Rattle.image_format.specs.Bytes.{lists, words_in, floats_in, lists_in, same_bytes}
-use Rattle.image_format.specs.Fields.{PRECISION-RECORD, record_image, fields_in, behind}
+use Rattle.image_format.specs.Fields.{PRECISION_RECORD, record_image, fields_in, behind}
 use Rattle.image_format.specs.Image.{precision_fields, table_image, records_image, count_in, behind_records, table_bytes, fields_at, model_of}
 use Rattle.image_laws.specs.Numbers.{Bytes}
 use Rattle.image_laws.specs.Machines.{behind-bytes, table-bytes}
@@ -60,7 +60,7 @@ module _ (k : ℕ) (h : k < 10) (s : List ℕ) (b : Bytes s) where
 
 -- the precision's record, and the first k tables
 unfoldable pub up_to : List ℕ → ℕ → List ℕ
-up_to b zero = record_image PRECISION-RECORD (precision_fields (model_of b First))
+up_to b zero = record_image PRECISION_RECORD (precision_fields (model_of b First))
 up_to b (suc k) = up_to b k ++ records_written k (table_bytes b k) (count_in b k)
 
 image-parts : (b : List ℕ) → records_image (model_of b First) ≡ up_to b 10
@@ -69,14 +69,14 @@ image-parts b = refl
 
 module _ (b : List ℕ) (bytes : Bytes b) where
   -- the precision's record takes 50 bytes, read or written
-  pub head-long : (length (record_image PRECISION-RECORD (fields_in PRECISION-RECORD b)) ≡ 50) × (length (up_to b 0) ≡ 50)
+  pub head-long : (length (record_image PRECISION_RECORD (fields_in PRECISION_RECORD b)) ≡ 50) × (length (up_to b 0) ≡ 50)
   unfolding up_to
-  head-long = (length-image PRECISION-RECORD (fields_in PRECISION-RECORD b) ∙ sizes, length-image PRECISION-RECORD (precision_fields (model_of b First)) ∙ none)
+  head-long = (length-image PRECISION_RECORD (fields_in PRECISION_RECORD b) ∙ sizes, length-image PRECISION_RECORD (precision_fields (model_of b First)) ∙ none)
     where
       none : 2 + 4 * 10 + 8 * 1 + length (lists []) ≡ 50
       none = unfold lists in refl
 
-      sizes : 2 + 4 * length (fields_in PRECISION-RECORD b).words + 8 * length (fields_in PRECISION-RECORD b).floats + length (lists (fields_in PRECISION-RECORD b).lists) ≡ 50
+      sizes : 2 + 4 * length (fields_in PRECISION_RECORD b).words + 8 * length (fields_in PRECISION_RECORD b).floats + length (lists (fields_in PRECISION_RECORD b).lists) ≡ 50
       sizes = unfold fields_in words_in floats_in lists_in lists in refl
 
   up-to-behind : (k : ℕ) → k ≤ 10 → drop (length (up_to b k)) b ≡ table_bytes b k

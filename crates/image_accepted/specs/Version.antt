@@ -10,7 +10,7 @@ use Rattle.meaning_list_laws.specs.Tests.{and_both, and-true, and-false, both_wa
 use Rattle.memory_layout.specs.Layout.{word}
 use Rattle.memory_layout.specs.Laid.{version_tag}
 use Rattle.image_format.specs.Bytes.{little, words, floats, lists, number, words_in, same_bytes}
-use Rattle.image_format.specs.Fields.{VERSION-RECORD, marks, record_image}
+use Rattle.image_format.specs.Fields.{VERSION_RECORD, marks, record_image}
 use Rattle.image_format.specs.Image.{records_image, version_image, image_of, model_of, version_in, records_in, model_in, held, accepted}
 use Rattle.image_laws.specs.Numbers.{Bytes, below-first, below-drop}
 use Rattle.image_laws.specs.Machines.{records-bytes}
@@ -73,13 +73,13 @@ unfolding version_image record_image little joined floats lists
 second-long = refl
 
 -- the mark
-pub marked : (b : List ℕ) → number 2 b ≡ word marks VERSION-RECORD → version_in b ≡ Second
+pub marked : (b : List ℕ) → number 2 b ≡ word marks VERSION_RECORD → version_in b ≡ Second
 unfolding version_in
-marked b e = rw (eq-eqb (number 2 b) (word marks VERSION-RECORD) e)
+marked b e = rw (eq-eqb (number 2 b) (word marks VERSION_RECORD) e)
 
-pub unmarked : (b : List ℕ) → (number 2 b ≡ word marks VERSION-RECORD → ⊥) → version_in b ≡ First
+pub unmarked : (b : List ℕ) → (number 2 b ≡ word marks VERSION_RECORD → ⊥) → version_in b ≡ First
 unfolding version_in
-unmarked b e = rw (ne_eqb (number 2 b) (word marks VERSION-RECORD) e)
+unmarked b e = rw (ne_eqb (number 2 b) (word marks VERSION_RECORD) e)
 
 -- two bytes that are not there make none
 pub too_short : (b : List ℕ) → Bytes b → length b < 2 → version_in b ≡ First
@@ -100,19 +100,19 @@ second-good b h e = rw e (begins ∙ tests)
     named true q = refl
     named false q = let z : ◌≡◌ {A = ℕ} 0 1 = cc in absurd (omega arith)
 
-    mark : eqb (number 2 b) (word marks VERSION-RECORD) ≡ true
+    mark : eqb (number 2 b) (word marks VERSION_RECORD) ≡ true
     mark = named _ (unfold version_in in e)
 
-    begins : starts (version_image Second) b ≡ ((leb 2 (length b) && eqb (number 2 b) (word marks VERSION-RECORD)) && (leb 4 (length b - 2) && eqb (number 4 (drop 2 b)) 2))
+    begins : starts (version_image Second) b ≡ ((leb 2 (length b) && eqb (number 2 b) (word marks VERSION_RECORD)) && (leb 4 (length b - 2) && eqb (number 4 (drop 2 b)) 2))
     begins =
-        starts-record VERSION-RECORD (record { office = office-0; words = 2 ∷ []; floats = []; lists = [] }) b refl refl
-        ∙ rw (starts-little 2 (word marks VERSION-RECORD) b (omega arith) h, starts-words (2 ∷ []) (drop 2 b) (unfold all in refl) (below-drop 256 2 b h), length-drop 2 b)
+        starts-record VERSION_RECORD (record { office = office-0; words = 2 ∷ []; floats = []; lists = [] }) b refl refl
+        ∙ rw (starts-little 2 (word marks VERSION_RECORD) b (omega arith) h, starts-words (2 ∷ []) (drop 2 b) (unfold all in refl) (below-drop 256 2 b h), length-drop 2 b)
         (simp (and-true, eqb-sym 2))
 
-    tests : ((leb 2 (length b) && eqb (number 2 b) (word marks VERSION-RECORD)) && (leb 4 (length b - 2) && eqb (number 4 (drop 2 b)) 2)) ≡ (leb 6 (length b) && eqb (number 4 (drop 2 b)) 2)
+    tests : ((leb 2 (length b) && eqb (number 2 b) (word marks VERSION_RECORD)) && (leb 4 (length b - 2) && eqb (number 4 (drop 2 b)) 2)) ≡ (leb 6 (length b) && eqb (number 4 (drop 2 b)) 2)
     tests =
         both_ways _ _
-        (λ q. let p = and_both (leb 2 (length b) && eqb (number 2 b) (word marks VERSION-RECORD)) (leb 4 (length b - 2) && eqb (number 4 (drop 2 b)) 2) q in
+        (λ q. let p = and_both (leb 2 (length b) && eqb (number 2 b) (word marks VERSION_RECORD)) (leb 4 (length b - 2) && eqb (number 4 (drop 2 b)) 2) q in
         let r = and_both (leb 4 (length b - 2)) (eqb (number 4 (drop 2 b)) 2) p.1 in
         let n : 4 ≤ length b - 2 = leb-true 4 (length b - 2) r.0 in
         rw (le-leb 6 (length b) (omega arith)) r.1)

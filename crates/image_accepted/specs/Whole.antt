@@ -13,7 +13,7 @@ use Rattle.meaning.specs.Edits.{precision_ok}
 use Rattle.meaning_list_laws.specs.Tests.{and_both, and_assoc, and-true, and-false, both_ways, all_below-at, all_below-all}
 use Rattle.memory_layout.specs.Layout.{word, largest_tables}
 use Rattle.image_format.specs.Bytes.{number, same_bytes}
-use Rattle.image_format.specs.Fields.{PRECISION-RECORD, marks, behind}
+use Rattle.image_format.specs.Fields.{PRECISION_RECORD, marks, behind}
 use Rattle.image_format.specs.Image.{count_in, behind_records, table_bytes, fields_at, records_image, model_of, held}
 use Rattle.image_laws.specs.Numbers.{Bytes}
 use Rattle.image_laws.specs.Starts.{starts}
@@ -53,7 +53,7 @@ pub head-room : (b : List ℕ) → head_good b ≡ true → 50 ≤ length b
 unfolding head_good
 head-room b e =
     leb-true 50 (length b)
-    (and_both (leb 50 (length b)) (eqb (number 2 b) (word marks PRECISION-RECORD)) (and_both (leb 50 (length b) && eqb (number 2 b) (word marks PRECISION-RECORD)) (precision_ok (precision_in b)) e).0).0
+    (and_both (leb 50 (length b)) (eqb (number 2 b) (word marks PRECISION_RECORD)) (and_both (leb 50 (length b) && eqb (number 2 b) (word marks PRECISION_RECORD)) (precision_ok (precision_in b)) e).0).0
 
 module _ (b : List ℕ) (bytes : Bytes b) where
   abbrev held_at : ℕ → Bool
@@ -97,7 +97,7 @@ module _ (b : List ℕ) (bytes : Bytes b) where
   found_of p h q =
       record {
         head = head-room b h;
-        precision = (and_both (leb 50 (length b) && eqb (number 2 b) (word marks PRECISION-RECORD)) (precision_ok (precision_in b)) h).1;
+        precision = (and_both (leb 50 (length b) && eqb (number 2 b) (word marks PRECISION_RECORD)) (precision_ok (precision_in b)) h).1;
         counts = λ k l. leb-true (count_in b k) (word largest_tables k) (and_both (leb (count_in b k) (word largest_tables k)) (records_held b k) (all_below-at held_at 10 k p l)).0;
         good = λ k i l m. good_of k i l m p q;
       }

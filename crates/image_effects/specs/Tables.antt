@@ -16,7 +16,7 @@ use Rattle.memory_layout.specs.Laws.{before-tables, record-inside, words-length}
 use Rattle.memory_writes.specs.Put.{over, put_words, put_reals}
 use Rattle.memory_writes.specs.Over.{length_over, part-behind, entry-behind, entry-written}
 use Rattle.memory_writes.specs.Frame.{length-put, put-there, put-elsewhere, put-before}
-use Rattle.image_format.specs.Fields.{list_limits_of, PRECISION-RECORD, word_counts, float_counts, fields_in}
+use Rattle.image_format.specs.Fields.{list_limits_of, PRECISION_RECORD, word_counts, float_counts, fields_in}
 use Rattle.image_format.specs.Image.{count_in, fields_at}
 use Rattle.image_laws.specs.Numbers.{length-words_in, length-floats_in}
 use Rattle.image_record_test.specs.Spelled.{within}
@@ -114,7 +114,7 @@ pub record Read (room w v : List ℕ) (x y : List Float) (b : List ℕ) : Type 0
   pub words_long : length v ≡ length w
   pub reals-long : length y ≡ length x
   pub version : word v VERSION ≡ word w VERSION
-  pub precision : real y PRECISION ≡ real (fields_in PRECISION-RECORD b).floats PRECISION
+  pub precision : real y PRECISION ≡ real (fields_in PRECISION_RECORD b).floats PRECISION
   pub counts : (k : ℕ) → k < 10 → word v k ≡ count_in b k
   pub words : (k i : ℕ) → k < 10 → i < count_in b k → Laid k (fields_at b k i) (words_of room w k i) (words_of room v k i)
   pub reals : (k i : ℕ) → k < 10 → i < count_in b k → reals_of room y k i ≡ (fields_at b k i).floats
@@ -130,10 +130,10 @@ module _ (room b : List ℕ) where
   new_reals k i r = (fields_at b k i).floats
 
   abbrev head : List ℕ
-  head = (fields_in PRECISION-RECORD b).words
+  head = (fields_in PRECISION_RECORD b).words
 
   abbrev precision : List Float
-  precision = (fields_in PRECISION-RECORD b).floats
+  precision = (fields_in PRECISION_RECORD b).floats
 
   some_words : (k n : ℕ) (l : List ℕ) → records_laid room b k n l ≡ some 11 word_strides room new_words (count_in b) k n l
   unfolding records_laid some put_words words_of

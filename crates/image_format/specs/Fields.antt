@@ -4,7 +4,7 @@
 use Rattle.std.specs.Prelude.{ℕ, ◌+◌, ◌*◌, cond, ◌&&◌, List, [], ◌∷◌, ◌++◌, eqb, length, get_or, drop, Float}
 use Rattle.geom_carriers.specs.declared.Carrier.{Carrier}
 use Rattle.meaning.specs.Model.{largest, Office, office-0, office-1, Body, Region, Shell, Face, Loop, Fin, Edge, Vertex}
-use Rattle.memory_layout.specs.Names.{BODIES, AT-BODY-KIND, AT-BODY-REGIONS, AT-REGION-BODY, AT-REGION-SOLID, AT-REGION-SHELLS, AT-SHELL-REGION, AT-SHELL-FACES, AT-SHELL-WIRES, AT-SHELL-ACORNS, AT-FACE-FRONT, AT-FACE-BACK, AT-FACE-SURFACE, AT-FACE-SENSE, AT-FACE-LOOPS, AT-LOOP-FACE, AT-LOOP-FINS, AT-FIN-LOOP, AT-FIN-EDGE, AT-FIN-SENSE, AT-FIN-PCURVE, AT-EDGE-START, AT-EDGE-END, AT-EDGE-CURVE, AT-EDGE-TOLERANCE, AT-EDGE-FINS, FLOAT-EDGE-TOLERANCE}
+use Rattle.memory_layout.specs.Names.{BODIES, AT_BODY_KIND, AT_BODY_REGIONS, AT_REGION_BODY, AT_REGION_SOLID, AT_REGION_SHELLS, AT_SHELL_REGION, AT_SHELL_FACES, AT_SHELL_WIRES, AT_SHELL_ACORNS, AT_FACE_FRONT, AT_FACE_BACK, AT_FACE_SURFACE, AT_FACE_SENSE, AT_FACE_LOOPS, AT_LOOP_FACE, AT_LOOP_FINS, AT_FIN_LOOP, AT_FIN_EDGE, AT_FIN_SENSE, AT_FIN_PCURVE, AT_EDGE_START, AT_EDGE_END, AT_EDGE_CURVE, AT_EDGE_TOLERANCE, AT_EDGE_FINS, FLOAT_EDGE_TOLERANCE}
 use Rattle.memory_layout.specs.Layout.{word, real}
 use Rattle.memory_layout.specs.Decode.{kind_of, sense_of, flag_at, maybe_at, tolerance_of, vertex_of, carrier_of}
 use Rattle.memory_layout.specs.Laid.{bit, sense, kind, maybe, tag, own, coordinates, carrier_tag, carrier_reals}
@@ -19,24 +19,24 @@ pub record Fields : Type 0 where
 
 -- ---- by table, and last the precision's record and the version's: two letters, the first in the lower byte; how many numbers, floats and lists
 
-abbrev pub PRECISION-RECORD : ℕ
-PRECISION-RECORD = 10
+abbrev pub PRECISION_RECORD : ℕ
+PRECISION_RECORD = 10
 
-abbrev pub VERSION-RECORD : ℕ
-VERSION-RECORD = 11
+abbrev pub VERSION_RECORD : ℕ
+VERSION_RECORD = 11
 
 -- BO, RE, SH, FA, LO, FI, ED, VE, CU, SU; PR, VN
 abbrev pub marks : List ℕ
 marks = 0x4f42 ∷ 0x4552 ∷ 0x4853 ∷ 0x4146 ∷ 0x4f4c ∷ 0x4946 ∷ 0x4445 ∷ 0x4556 ∷ 0x5543 ∷ 0x5553 ∷ 0x5250 ∷ 0x4e56 ∷ []
 
 -- "a second body mark": BP
-abbrev pub SECOND-BODY-MARK : ℕ
-SECOND-BODY-MARK = 0x5042
+abbrev pub SECOND_BODY_MARK : ℕ
+SECOND_BODY_MARK = 0x5042
 
 -- by table and office
 abbrev pub mark_of : ℕ → Office → ℕ
 mark_of k office-0 = word marks k
-mark_of k office-1 = SECOND-BODY-MARK
+mark_of k office-1 = SECOND_BODY_MARK
 
 abbrev pub word_counts : List ℕ
 word_counts = 1 ∷ 2 ∷ 1 ∷ 7 ∷ 1 ∷ 4 ∷ 7 ∷ 1 ∷ 1 ∷ 1 ∷ 10 ∷ 1 ∷ []
@@ -50,13 +50,13 @@ list_counts = 1 ∷ 1 ∷ 3 ∷ 1 ∷ 1 ∷ 0 ∷ 1 ∷ 0 ∷ 0 ∷ 0 ∷ 0 ∷ 
 -- and the places of those lists among the words of a record of the lent memory; the numbers stand at its front
 abbrev pub list_places_of : List (List ℕ)
 list_places_of =
-    (AT-BODY-REGIONS ∷ [])
-    ∷ (AT-REGION-SHELLS ∷ [])
-    ∷ (AT-SHELL-FACES ∷ AT-SHELL-WIRES ∷ AT-SHELL-ACORNS ∷ [])
-    ∷ (AT-FACE-LOOPS ∷ [])
-    ∷ (AT-LOOP-FINS ∷ [])
+    (AT_BODY_REGIONS ∷ [])
+    ∷ (AT_REGION_SHELLS ∷ [])
+    ∷ (AT_SHELL_FACES ∷ AT_SHELL_WIRES ∷ AT_SHELL_ACORNS ∷ [])
+    ∷ (AT_FACE_LOOPS ∷ [])
+    ∷ (AT_LOOP_FINS ∷ [])
     ∷ []
-    ∷ (AT-EDGE-FINS ∷ [])
+    ∷ (AT_EDGE_FINS ∷ [])
     ∷ []
 
 -- how long each of those lists may be
@@ -78,7 +78,7 @@ record_image k f = little 2 (mark_of k f.office) ++ words f.words ++ floats f.fl
 
 -- the office that a mark tells; "so old images read as office 0"
 abbrev pub office_in : ℕ → ℕ → Office
-office_in k n = cond (eqb k BODIES && eqb n SECOND-BODY-MARK) office-1 office-0
+office_in k n = cond (eqb k BODIES && eqb n SECOND_BODY_MARK) office-1 office-0
 
 -- the fields of a record of table k that begins with the first of the bytes s, whatever its mark is
 unfoldable pub fields_in : ℕ → List ℕ → Fields
@@ -139,44 +139,44 @@ abbrev pub list_in : Fields → ℕ → List ℕ
 list_in f j = get_or f.lists j []
 
 abbrev pub body_in : Fields → Body
-body_in f = record { kind = kind_of (word f.words AT-BODY-KIND); office = f.office; regions = list_in f 0 }
+body_in f = record { kind = kind_of (word f.words AT_BODY_KIND); office = f.office; regions = list_in f 0 }
 
 abbrev pub region_in : Fields → Region
-region_in f = record { body = word f.words AT-REGION-BODY; solid = flag_at f.words AT-REGION-SOLID; shells = list_in f 0 }
+region_in f = record { body = word f.words AT_REGION_BODY; solid = flag_at f.words AT_REGION_SOLID; shells = list_in f 0 }
 
 abbrev pub shell_in : Fields → Shell
-shell_in f = record { region = word f.words AT-SHELL-REGION; faces = list_in f 0; wire_edges = list_in f 1; acorn_vertices = list_in f 2 }
+shell_in f = record { region = word f.words AT_SHELL_REGION; faces = list_in f 0; wire_edges = list_in f 1; acorn_vertices = list_in f 2 }
 
 abbrev pub face_in : Fields → Face
 face_in f =
     record {
-      front = maybe_at f.words AT-FACE-FRONT;
-      back = maybe_at f.words AT-FACE-BACK;
+      front = maybe_at f.words AT_FACE_FRONT;
+      back = maybe_at f.words AT_FACE_BACK;
       loops = list_in f 0;
-      surface = maybe_at f.words AT-FACE-SURFACE;
-      sense = sense_of (word f.words AT-FACE-SENSE);
+      surface = maybe_at f.words AT_FACE_SURFACE;
+      sense = sense_of (word f.words AT_FACE_SENSE);
     }
 
 abbrev pub loop_in : Fields → Loop
-loop_in f = record { face = word f.words AT-LOOP-FACE; fins = list_in f 0 }
+loop_in f = record { face = word f.words AT_LOOP_FACE; fins = list_in f 0 }
 
 abbrev pub fin_in : Fields → Fin
 fin_in f =
     record {
-      owner = word f.words AT-FIN-LOOP;
-      edge = word f.words AT-FIN-EDGE;
-      sense = sense_of (word f.words AT-FIN-SENSE);
-      pcurve = flag_at f.words AT-FIN-PCURVE;
+      owner = word f.words AT_FIN_LOOP;
+      edge = word f.words AT_FIN_EDGE;
+      sense = sense_of (word f.words AT_FIN_SENSE);
+      pcurve = flag_at f.words AT_FIN_PCURVE;
     }
 
 abbrev pub edge_in : Fields → Edge
 edge_in f =
     record {
       fins = list_in f 0;
-      start = maybe_at f.words AT-EDGE-START;
-      end = maybe_at f.words AT-EDGE-END;
-      curve = maybe_at f.words AT-EDGE-CURVE;
-      tolerance = tolerance_of (word f.words AT-EDGE-TOLERANCE) (real f.floats FLOAT-EDGE-TOLERANCE);
+      start = maybe_at f.words AT_EDGE_START;
+      end = maybe_at f.words AT_EDGE_END;
+      curve = maybe_at f.words AT_EDGE_CURVE;
+      tolerance = tolerance_of (word f.words AT_EDGE_TOLERANCE) (real f.floats FLOAT_EDGE_TOLERANCE);
     }
 
 abbrev pub vertex_in : Fields → Vertex

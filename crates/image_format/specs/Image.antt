@@ -11,7 +11,7 @@ use Rattle.memory_layout.specs.Names.{BODIES, REGIONS, SHELLS, FACES, LOOPS, FIN
 use Rattle.memory_layout.specs.Layout.{word, real}
 use Rattle.memory_layout.specs.Laid.{rooms, version_tag}
 use Rattle.image_format.specs.Bytes.{number, same_bytes}
-use Rattle.image_format.specs.Fields.{Fields, PRECISION-RECORD, VERSION-RECORD, marks, record_image, fields_in, behind, body_fields, region_fields, shell_fields, face_fields, loop_fields, fin_fields, edge_fields, vertex_fields, carrier_fields, body_in, region_in, shell_in, face_in, loop_in, fin_in, edge_in, vertex_in, carrier_in}
+use Rattle.image_format.specs.Fields.{Fields, PRECISION_RECORD, VERSION_RECORD, marks, record_image, fields_in, behind, body_fields, region_fields, shell_fields, face_fields, loop_fields, fin_fields, edge_fields, vertex_fields, carrier_fields, body_in, region_in, shell_in, face_in, loop_in, fin_in, edge_in, vertex_in, carrier_in}
 
 -- ---- written
 
@@ -25,7 +25,7 @@ table_image k fields t = joined (λ i. record_image k (fields (t.slot i))) (run 
 -- the precision's record, then the tables
 unfoldable pub records_image : Model → List ℕ
 records_image m =
-    record_image PRECISION-RECORD (precision_fields m)
+    record_image PRECISION_RECORD (precision_fields m)
     ++ table_image BODIES body_fields m.bodies
     ++ table_image REGIONS region_fields m.regions
     ++ table_image SHELLS shell_fields m.shells
@@ -40,7 +40,7 @@ records_image m =
 -- "with a mark of its own and the version": "A version 1 model is written as before", with no such record
 unfoldable pub version_image : Version → List ℕ
 version_image First = []
-version_image Second = record_image VERSION-RECORD (record { office = office-0; words = version_tag Second ∷ []; floats = []; lists = [] })
+version_image Second = record_image VERSION_RECORD (record { office = office-0; words = version_tag Second ∷ []; floats = []; lists = [] })
 
 unfoldable pub image_of : Model → List ℕ
 image_of m = version_image m.version ++ records_image m
@@ -49,7 +49,7 @@ image_of m = version_image m.version ++ records_image m
 
 -- how many records of table k the precision's record names
 unfoldable pub count_in : List ℕ → ℕ → ℕ
-count_in b k = word (fields_in PRECISION-RECORD b).words k
+count_in b k = word (fields_in PRECISION_RECORD b).words k
 
 -- the bytes behind n records of table k
 unfoldable pub behind_records : ℕ → ℕ → List ℕ → List ℕ
@@ -58,7 +58,7 @@ behind_records k (suc n) s = behind k (behind_records k n s)
 
 -- the bytes where table k begins
 unfoldable pub table_bytes : List ℕ → ℕ → List ℕ
-table_bytes b zero = behind PRECISION-RECORD b
+table_bytes b zero = behind PRECISION_RECORD b
 table_bytes b (suc k) = behind_records k (count_in b k) (table_bytes b k)
 
 -- record i of table k
@@ -73,7 +73,7 @@ module _ (b : List ℕ) where
   model_of v =
       record {
         version = v;
-        precision = real (fields_in PRECISION-RECORD b).floats PRECISION;
+        precision = real (fields_in PRECISION_RECORD b).floats PRECISION;
         bodies = table_in BODIES body_in;
         regions = table_in REGIONS region_in;
         shells = table_in SHELLS shell_in;
@@ -90,7 +90,7 @@ module _ (b : List ℕ) where
 
 -- version 2 where they begin with the mark of its record; "old images are read as version 1"
 unfoldable pub version_in : List ℕ → Version
-version_in b = cond (eqb (number 2 b) (word marks VERSION-RECORD)) Second First
+version_in b = cond (eqb (number 2 b) (word marks VERSION_RECORD)) Second First
 
 -- the bytes behind that record, all of them where there is none
 unfoldable pub records_in : List ℕ → List ℕ

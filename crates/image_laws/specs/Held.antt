@@ -5,7 +5,7 @@ use Rattle.geom_lines_planes.specs.declared.tolerance.Tolerance.TheVariants.{Own
 use Rattle.meaning.specs.Lists.{all_below}
 use Rattle.meaning.specs.Edits.{tolerance_ok}
 use Rattle.meaning_list_laws.specs.Tests.{and_both, every-cons, every-none, all_below-all}
-use Rattle.memory_layout.specs.Names.{BODIES, REGIONS, SHELLS, FACES, LOOPS, FINS, EDGES, VERTICES, CURVES, SURFACES, BODY-REGIONS, REGION-SHELLS, SHELL-FACES, SHELL-WIRES, SHELL-ACORNS, FACE-LOOPS, LOOP-FINS, EDGE-FINS}
+use Rattle.memory_layout.specs.Names.{BODIES, REGIONS, SHELLS, FACES, LOOPS, FINS, EDGES, VERTICES, CURVES, SURFACES, BODY_REGIONS, REGION_SHELLS, SHELL_FACES, SHELL_WIRES, SHELL_ACORNS, FACE_LOOPS, LOOP_FINS, EDGE_FINS}
 use Rattle.memory_layout.specs.Layout.{largest_tables, word, real, words_of, reals_of}
 use Rattle.memory_layout.specs.Decode.{tolerance_of, decode}
 use Rattle.memory_layout.specs.Readable.{own_ok, record_ok}
@@ -52,13 +52,13 @@ module _ (room w : List ℕ) (x : List Float) (fit : Fit room w x) where
   unfolding held decode list_of
   lent-held =
       every-cons _ _ fit.precision
-      (every-cons _ _ (table BODIES _ (omega arith) (λ i h. listed BODY-REGIONS i (omega arith) h))
-      (every-cons _ _ (table REGIONS _ (omega arith) (λ i h. listed REGION-SHELLS i (omega arith) h))
-      (every-cons _ _ (table SHELLS _ (omega arith) (λ i h. rw (listed SHELL-FACES i (omega arith) h, listed SHELL-WIRES i (omega arith) h) (listed SHELL-ACORNS i (omega arith) h)))
-      (every-cons _ _ (table FACES _ (omega arith) (λ i h. listed FACE-LOOPS i (omega arith) h))
-      (every-cons _ _ (table LOOPS _ (omega arith) (λ i h. listed LOOP-FINS i (omega arith) h))
+      (every-cons _ _ (table BODIES _ (omega arith) (λ i h. listed BODY_REGIONS i (omega arith) h))
+      (every-cons _ _ (table REGIONS _ (omega arith) (λ i h. listed REGION_SHELLS i (omega arith) h))
+      (every-cons _ _ (table SHELLS _ (omega arith) (λ i h. rw (listed SHELL_FACES i (omega arith) h, listed SHELL_WIRES i (omega arith) h) (listed SHELL_ACORNS i (omega arith) h)))
+      (every-cons _ _ (table FACES _ (omega arith) (λ i h. listed FACE_LOOPS i (omega arith) h))
+      (every-cons _ _ (table LOOPS _ (omega arith) (λ i h. listed LOOP_FINS i (omega arith) h))
       (every-cons _ _ (table FINS _ (omega arith) (λ i h. refl))
-      (every-cons _ _ (table EDGES _ (omega arith) (λ i h. rw (listed EDGE-FINS i (omega arith) h) (edge-held i h)))
+      (every-cons _ _ (table EDGES _ (omega arith) (λ i h. rw (listed EDGE_FINS i (omega arith) h) (edge-held i h)))
       (every-cons _ _ (table VERTICES _ (omega arith) vertex-held)
       (every-cons _ _ (table CURVES _ (omega arith) (λ i h. refl))
       (every-cons _ _ (table SURFACES _ (omega arith) (λ i h. refl)) every-none))))))))))

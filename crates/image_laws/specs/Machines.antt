@@ -20,12 +20,12 @@ use Rattle.geom_carriers.specs.declared.Carrier.TheVariants as Carriers
 use Rattle.meaning.specs.Lists.{run, all, joined}
 use Rattle.meaning.specs.Model.{Model, Table, BodyKind, acorn, wire, sheet, solid, general, Sense, positive, negative, office-0}
 use Rattle.meaning_list_laws.specs.Lists.{all_none, all_both, all_append, all_map}
-use Rattle.memory_layout.specs.Names.{BODIES, REGIONS, SHELLS, FACES, LOOPS, FINS, EDGES, VERTICES, CURVES, SURFACES, AT-BODY-REGIONS, AT-REGION-SHELLS, AT-SHELL-FACES, AT-SHELL-WIRES, AT-SHELL-ACORNS, AT-FACE-LOOPS, AT-LOOP-FINS, AT-EDGE-FINS}
+use Rattle.memory_layout.specs.Names.{BODIES, REGIONS, SHELLS, FACES, LOOPS, FINS, EDGES, VERTICES, CURVES, SURFACES, AT_BODY_REGIONS, AT_REGION_SHELLS, AT_SHELL_FACES, AT_SHELL_WIRES, AT_SHELL_ACORNS, AT_FACE_LOOPS, AT_LOOP_FINS, AT_EDGE_FINS}
 use Rattle.memory_layout.specs.Layout.{word, real, word_strides, real_strides, word_at, real_at, words_of, reals_of}
 use Rattle.memory_layout.specs.Decode.{list_at, maybe_at, flag_at, point_at, vec_at, sense_of, kind_of, tolerance_of, body_of, decode}
 use Rattle.memory_layout.specs.Laid.{bit, sense, kind, maybe, tag, own}
 use Rattle.image_format.specs.Bytes.{little, number, words_in, floats_in, lists_in}
-use Rattle.image_format.specs.Fields.{Fields, mark_of, word_counts, float_counts, list_counts, PRECISION-RECORD, record_image, fields_in, behind, body_fields, region_fields, shell_fields, face_fields, loop_fields, fin_fields, edge_fields, vertex_fields, carrier_fields, body_in, region_in, shell_in, face_in, loop_in, fin_in, edge_in, vertex_in, carrier_in}
+use Rattle.image_format.specs.Fields.{Fields, mark_of, word_counts, float_counts, list_counts, PRECISION_RECORD, record_image, fields_in, behind, body_fields, region_fields, shell_fields, face_fields, loop_fields, fin_fields, edge_fields, vertex_fields, carrier_fields, body_in, region_in, shell_in, face_in, loop_in, fin_in, edge_in, vertex_in, carrier_in}
 use Rattle.image_format.specs.Image.{table_image, records_image, version_image, image_of, count_in, behind_records, table_bytes, fields_at, model_of, version_in, records_in, model_in}
 use Rattle.image_laws.specs.Numbers.{Below, Bytes, Words, Doubles, Lists, below-first, below-cons, below_at, below-drop, number-below, numbers_in, words-in, length-words_in, patterns, floats-are, flat, lists-are}
 use Rattle.image_laws.specs.Records.{first-marked, body-marked, Fitting}
@@ -221,11 +221,11 @@ module _ (f : Fields) (w : Whole f) where
       }
 
   -- the ten used counts and the precision
-  pub precision-fits : Fitting PRECISION-RECORD (record { office = office-0; words = map (word f.words) (0 ∷ 1 ∷ 2 ∷ 3 ∷ 4 ∷ 5 ∷ 6 ∷ 7 ∷ 8 ∷ 9 ∷ []); floats = real f.floats 0 ∷ []; lists = [] })
+  pub precision-fits : Fitting PRECISION_RECORD (record { office = office-0; words = map (word f.words) (0 ∷ 1 ∷ 2 ∷ 3 ∷ 4 ∷ 5 ∷ 6 ∷ 7 ∷ 8 ∷ 9 ∷ []); floats = real f.floats 0 ∷ []; lists = [] })
   unfolding all
   precision-fits =
       record {
-        mark = first-marked PRECISION-RECORD (omega arith);
+        mark = first-marked PRECISION_RECORD (omega arith);
         words = refl;
         floats = refl;
         lists = refl;
@@ -290,7 +290,7 @@ behind-bytes k (suc n) s h = let r = behind_records k n s in below-drop 256 (len
 module _ (b : List ℕ) (bytes : Bytes b) where
   pub table-bytes : (k : ℕ) → Bytes (table_bytes b k)
   unfolding table_bytes behind
-  table-bytes zero = below-drop 256 (length (record_image PRECISION-RECORD (fields_in PRECISION-RECORD b))) b bytes
+  table-bytes zero = below-drop 256 (length (record_image PRECISION_RECORD (fields_in PRECISION_RECORD b))) b bytes
   table-bytes (suc k) = behind-bytes k (count_in b k) (table_bytes b k) (table-bytes k)
 
   pub whole-at : (k i : ℕ) → Whole (fields_at b k i)
@@ -301,7 +301,7 @@ module _ (b : List ℕ) (bytes : Bytes b) where
   unfolding model_of count_in
   machine-of v =
       record {
-        precision = precision-fits (fields_in PRECISION-RECORD b) (whole_in PRECISION-RECORD b bytes);
+        precision = precision-fits (fields_in PRECISION_RECORD b) (whole_in PRECISION_RECORD b bytes);
         bodies = λ i _. body-fits (fields_at b BODIES i) (whole-at BODIES i);
         regions = λ i _. region-fits (fields_at b REGIONS i) (whole-at REGIONS i);
         shells = λ i _. shell-fits (fields_at b SHELLS i) (whole-at SHELLS i);
@@ -360,13 +360,13 @@ module _ (room w : List ℕ) (x : List Float) (words : Words w) (doubles : Doubl
   machine-lent =
       record {
         precision = precision-fits (record { office = office-0; words = w; floats = x; lists = [] }) (record { small = words; double = doubles; short = tt });
-        bodies = λ i _. body-fits (fields BODIES i (AT-BODY-REGIONS ∷ [])) (fields-whole BODIES i (AT-BODY-REGIONS ∷ []));
-        regions = λ i _. region-fits (fields REGIONS i (AT-REGION-SHELLS ∷ [])) (fields-whole REGIONS i (AT-REGION-SHELLS ∷ []));
-        shells = λ i _. shell-fits (fields SHELLS i (AT-SHELL-FACES ∷ AT-SHELL-WIRES ∷ AT-SHELL-ACORNS ∷ [])) (fields-whole SHELLS i (AT-SHELL-FACES ∷ AT-SHELL-WIRES ∷ AT-SHELL-ACORNS ∷ []));
-        faces = λ i _. face-fits (fields FACES i (AT-FACE-LOOPS ∷ [])) (fields-whole FACES i (AT-FACE-LOOPS ∷ []));
-        loops = λ i _. loop-fits (fields LOOPS i (AT-LOOP-FINS ∷ [])) (fields-whole LOOPS i (AT-LOOP-FINS ∷ []));
+        bodies = λ i _. body-fits (fields BODIES i (AT_BODY_REGIONS ∷ [])) (fields-whole BODIES i (AT_BODY_REGIONS ∷ []));
+        regions = λ i _. region-fits (fields REGIONS i (AT_REGION_SHELLS ∷ [])) (fields-whole REGIONS i (AT_REGION_SHELLS ∷ []));
+        shells = λ i _. shell-fits (fields SHELLS i (AT_SHELL_FACES ∷ AT_SHELL_WIRES ∷ AT_SHELL_ACORNS ∷ [])) (fields-whole SHELLS i (AT_SHELL_FACES ∷ AT_SHELL_WIRES ∷ AT_SHELL_ACORNS ∷ []));
+        faces = λ i _. face-fits (fields FACES i (AT_FACE_LOOPS ∷ [])) (fields-whole FACES i (AT_FACE_LOOPS ∷ []));
+        loops = λ i _. loop-fits (fields LOOPS i (AT_LOOP_FINS ∷ [])) (fields-whole LOOPS i (AT_LOOP_FINS ∷ []));
         fins = λ i _. fin-fits (fields FINS i []) (fields-whole FINS i []);
-        edges = λ i _. edge-fits (fields EDGES i (AT-EDGE-FINS ∷ [])) (fields-whole EDGES i (AT-EDGE-FINS ∷ []));
+        edges = λ i _. edge-fits (fields EDGES i (AT_EDGE_FINS ∷ [])) (fields-whole EDGES i (AT_EDGE_FINS ∷ []));
         vertices = λ i _. vertex-fits (fields VERTICES i []) (fields-whole VERTICES i []);
         curves = λ i _. carrier-fits (fields CURVES i []) (fields-whole CURVES i []) CURVES (omega arith) refl refl refl;
         surfaces = λ i _. carrier-fits (fields SURFACES i []) (fields-whole SURFACES i []) SURFACES (omega arith) refl refl refl;

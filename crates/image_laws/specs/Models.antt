@@ -14,14 +14,14 @@ use Rattle.memory_layout.specs.Layout.{word, real}
 use Rattle.memory_layout.specs.Laid.{rooms, version_tag}
 use Rattle.memory_writes.specs.Change.{SameModel}
 use Rattle.image_format.specs.Bytes.{number}
-use Rattle.image_format.specs.Fields.{PRECISION-RECORD, VERSION-RECORD, marks, record_image, fields_in, behind, body_fields, region_fields, shell_fields, face_fields, loop_fields, fin_fields, edge_fields, vertex_fields, carrier_fields, body_in, region_in, shell_in, face_in, loop_in, fin_in, edge_in, vertex_in, carrier_in}
+use Rattle.image_format.specs.Fields.{PRECISION_RECORD, VERSION_RECORD, marks, record_image, fields_in, behind, body_fields, region_fields, shell_fields, face_fields, loop_fields, fin_fields, edge_fields, vertex_fields, carrier_fields, body_in, region_in, shell_in, face_in, loop_in, fin_in, edge_in, vertex_in, carrier_in}
 use Rattle.image_format.specs.Image.{precision_fields, table_image, records_image, version_image, image_of, count_in, table_bytes, model_of, version_in, records_in, model_in, body_held, region_held, shell_held, face_held, loop_held, edge_held, vertex_held, held}
 use Rattle.image_laws.specs.Records.{first-marked, Fitting, record-mark, fields_read, behind-read, body_back, region-back, shell-back, face-back, loop-back, fin-back, edge-back, vertex-back, carrier-back}
 use Rattle.image_laws.specs.Tables.{Written, behind-table, table-read, table_same, held-table, same-third}
 
 -- ---- a model of numbers of 32 bits and floats of 64, as all lent memory is
 pub record Machine (m : Model) : Type 0 where
-  pub precision : Fitting PRECISION-RECORD (precision_fields m)
+  pub precision : Fitting PRECISION_RECORD (precision_fields m)
   pub bodies : (i : ℕ) → i < m.bodies.used → Fitting BODIES (body_fields (m.bodies.slot i))
   pub regions : (i : ℕ) → i < m.regions.used → Fitting REGIONS (region_fields (m.regions.slot i))
   pub shells : (i : ℕ) → i < m.shells.used → Fitting SHELLS (shell_fields (m.shells.slot i))
@@ -38,7 +38,7 @@ pub record Machine (m : Model) : Type 0 where
 -- the precision's record, then the tables
 abbrev parts : Model → List (List ℕ)
 parts m =
-    record_image PRECISION-RECORD (precision_fields m)
+    record_image PRECISION_RECORD (precision_fields m)
     ∷ table_image BODIES body_fields m.bodies
     ∷ table_image REGIONS region_fields m.regions
     ∷ table_image SHELLS shell_fields m.shells
@@ -68,8 +68,8 @@ module _ (m : Model) (w : Machine m) (c : List ℕ) where
   abbrev image : List ℕ
   image = records_image m ++ c
 
-  first : fields_in PRECISION-RECORD image ≡ precision_fields m
-  first = ap (fields_in PRECISION-RECORD) (image-parts m c) ∙ fields_read PRECISION-RECORD (precision_fields m) (from 1 m c) w.precision
+  first : fields_in PRECISION_RECORD image ≡ precision_fields m
+  first = ap (fields_in PRECISION_RECORD) (image-parts m c) ∙ fields_read PRECISION_RECORD (precision_fields m) (from 1 m c) w.precision
 
   counts : (k : ℕ) → count_in image k ≡ word (rooms m) k
   unfolding count_in
@@ -81,7 +81,7 @@ module _ (m : Model) (w : Machine m) (c : List ℕ) where
       record {
         fit = w.bodies;
         count = counts BODIES;
-        bytes = ap (behind PRECISION-RECORD) (image-parts m c) ∙ behind-read PRECISION-RECORD (precision_fields m) (from 1 m c) w.precision;
+        bytes = ap (behind PRECISION_RECORD) (image-parts m c) ∙ behind-read PRECISION_RECORD (precision_fields m) (from 1 m c) w.precision;
       }
 
   regions : Written image REGIONS region_fields m.regions (from 3 m c)
@@ -131,18 +131,18 @@ module _ (m : Model) (w : Machine m) (c : List ℕ) where
 
 -- ---- and the version
 
-version-fits : Fitting VERSION-RECORD (record { office = office-0; words = version_tag Second ∷ []; floats = []; lists = [] })
+version-fits : Fitting VERSION_RECORD (record { office = office-0; words = version_tag Second ∷ []; floats = []; lists = [] })
 unfolding all
 version-fits =
-    record { mark = first-marked VERSION-RECORD (omega arith); words = refl; floats = refl; lists = refl; small = refl; double = tt; short = tt }
+    record { mark = first-marked VERSION_RECORD (omega arith); words = refl; floats = refl; lists = refl; small = refl; double = tt; short = tt }
 
 -- the precision's record does not begin as the version's
-version-back : (v : Version) (s : List ℕ) → number 2 s ≡ word marks PRECISION-RECORD → version_in (version_image v ++ s) ≡ v
+version-back : (v : Version) (s : List ℕ) → number 2 s ≡ word marks PRECISION_RECORD → version_in (version_image v ++ s) ≡ v
 unfolding version_in version_image
 version-back First s first = rw first
-version-back Second s first = rw (record-mark VERSION-RECORD _ s version-fits)
+version-back Second s first = rw (record-mark VERSION_RECORD _ s version-fits)
 
-records-back : (v : Version) (s : List ℕ) → number 2 s ≡ word marks PRECISION-RECORD → records_in (version_image v ++ s) ≡ s
+records-back : (v : Version) (s : List ℕ) → number 2 s ≡ word marks PRECISION_RECORD → records_in (version_image v ++ s) ≡ s
 unfolding records_in
 records-back v s first = rw (version-back v s first) (drop-append_seam (version_image v) s)
 
@@ -151,8 +151,8 @@ module _ (m : Model) (w : Machine m) (c : List ℕ) where
   unfolding image_of
   whole_parts = append_assoc (version_image m.version) (records_image m) c
 
-  begins : number 2 (records_image m ++ c) ≡ word marks PRECISION-RECORD
-  begins = ap (number 2) (image-parts m c) ∙ record-mark PRECISION-RECORD (precision_fields m) (from 1 m c) w.precision
+  begins : number 2 (records_image m ++ c) ≡ word marks PRECISION_RECORD
+  begins = ap (number 2) (image-parts m c) ∙ record-mark PRECISION_RECORD (precision_fields m) (from 1 m c) w.precision
 
   pub model-read : SameModel (model_in (image_of m ++ c)) m
   unfolding model_in
@@ -167,7 +167,7 @@ module _ (m n : Model) (s : SameModel m n) where
   unfolding records_image
   records-same =
       λ i.
-      record_image PRECISION-RECORD (record { office = office-0; words = s.bodies.used i ∷ s.regions.used i ∷ s.shells.used i ∷ s.faces.used i ∷ s.loops.used i ∷ s.fins.used i ∷ s.edges.used i ∷ s.vertices.used i ∷ s.curves.used i ∷ s.surfaces.used i ∷ []; floats = s.precision i ∷ []; lists = [] })
+      record_image PRECISION_RECORD (record { office = office-0; words = s.bodies.used i ∷ s.regions.used i ∷ s.shells.used i ∷ s.faces.used i ∷ s.loops.used i ∷ s.fins.used i ∷ s.edges.used i ∷ s.vertices.used i ∷ s.curves.used i ∷ s.surfaces.used i ∷ []; floats = s.precision i ∷ []; lists = [] })
       ++ table_same s.bodies BODIES body_fields i
       ++ table_same s.regions REGIONS region_fields i
       ++ table_same s.shells SHELLS shell_fields i

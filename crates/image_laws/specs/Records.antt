@@ -17,7 +17,7 @@ use Rattle.memory_layout.specs.Layout.{word}
 use Rattle.memory_layout.specs.Decode.{kind_of, sense_of, maybe_at, tolerance_of}
 use Rattle.memory_layout.specs.Laid.{bit, sense, kind, maybe, tag, own}
 use Rattle.image_format.specs.Bytes.{words, floats, lists, number, words_in, floats_in, lists_in}
-use Rattle.image_format.specs.Fields.{Fields, marks, SECOND-BODY-MARK, mark_of, word_counts, float_counts, list_counts, record_image, office_in, fields_in, behind, body_fields, region_fields, shell_fields, face_fields, loop_fields, fin_fields, edge_fields, vertex_fields, carrier_fields, body_in, region_in, shell_in, face_in, loop_in, fin_in, edge_in, vertex_in, carrier_in}
+use Rattle.image_format.specs.Fields.{Fields, marks, SECOND_BODY_MARK, mark_of, word_counts, float_counts, list_counts, record_image, office_in, fields_in, behind, body_fields, region_fields, shell_fields, face_fields, loop_fields, fin_fields, edge_fields, vertex_fields, carrier_fields, body_in, region_in, shell_in, face_in, loop_in, fin_in, edge_in, vertex_in, carrier_in}
 use Rattle.image_laws.specs.Numbers.{Words, Doubles, Lists, length-little, number-little, drop-little, length-words, words-read, drop-words, length-floats, floats-read, drop-floats, lists-read}
 
 -- ---- a mark of two bytes, which tells the office that it is written for
@@ -29,9 +29,9 @@ pub record Marked (k : ℕ) (o : Office) : Type 0 where
 pub first-marked : (k : ℕ) → k < 12 → Marked k office-0
 unfolding all_below
 first-marked k h =
-    let all = all_below-at (λ j. ltb (word marks j) 0x1_0000 && not (eqb j BODIES && eqb (word marks j) SECOND-BODY-MARK)) 12 k refl h in
-    let both = and_both (ltb (word marks k) 0x1_0000) (not (eqb k BODIES && eqb (word marks k) SECOND-BODY-MARK)) all in
-    record { narrow = ltb-true (word marks k) 0x1_0000 both.0; told = rw (not-true (eqb k BODIES && eqb (word marks k) SECOND-BODY-MARK) both.1) }
+    let all = all_below-at (λ j. ltb (word marks j) 0x1_0000 && not (eqb j BODIES && eqb (word marks j) SECOND_BODY_MARK)) 12 k refl h in
+    let both = and_both (ltb (word marks k) 0x1_0000) (not (eqb k BODIES && eqb (word marks k) SECOND_BODY_MARK)) all in
+    record { narrow = ltb-true (word marks k) 0x1_0000 both.0; told = rw (not-true (eqb k BODIES && eqb (word marks k) SECOND_BODY_MARK) both.1) }
 
 pub body-marked : (o : Office) → Marked BODIES o
 body-marked office-0 = first-marked BODIES (omega arith)

@@ -13,7 +13,7 @@ use Rattle.memory_layout.specs.Readable.{readable}
 use Rattle.memory_layout.specs.Laws.{fit_of}
 use Rattle.memory_writes.specs.Change.{SameModel}
 use Rattle.image_format.specs.Bytes.{little, floats, lists, number, same_bytes}
-use Rattle.image_format.specs.Fields.{VERSION-RECORD, marks, mark_of, record_image, fields_in, body_fields}
+use Rattle.image_format.specs.Fields.{VERSION_RECORD, marks, mark_of, record_image, fields_in, body_fields}
 use Rattle.image_format.specs.Image.{records_image, version_image, image_of, behind_records, table_bytes, fields_at, model_of, version_in, records_in, model_in, held, accepted}
 use Rattle.image_laws.specs.Numbers.{Bytes, Words, Doubles, drop-little, same_bytes_lem, same-itself}
 use Rattle.image_laws.specs.Models as Models
@@ -96,7 +96,7 @@ unfolding image_of version_image
 first-is-as-before m e = rw e
 
 -- "9 for an image whose version record names anything but 2": one that is accepted and begins with that record's mark has a 2 behind it
-pub version-record-names-2 : (b : List ℕ) → accepted b ≡ true → number 2 b ≡ word marks VERSION-RECORD → number 4 (drop 2 b) ≡ 2
+pub version-record-names-2 : (b : List ℕ) → accepted b ≡ true → number 2 b ≡ word marks VERSION_RECORD → number 4 (drop 2 b) ≡ 2
 version-record-names-2 b h e =
     ap (λ (c : List ℕ). number 4 (drop 2 c)) (sym (accepted-is-written b h) ∙ second-has-one-more (model_in b) second) ∙ named
   where

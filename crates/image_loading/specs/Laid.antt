@@ -1,11 +1,11 @@
 -- The model of an image laid over the lent memory (W-202, "The reader replaces the old model untested; slots beyond the new counts stay"). Definitions only.
 -- What stands behind the end of a list stays too.
 use Rattle.std.specs.Prelude.{ℕ, zero, suc, cond, List, [], ◌∷◌, eqb, length, get_or, drop, Float}
-use Rattle.memory_layout.specs.Names.{BODIES, AT-BODY-KIND}
+use Rattle.memory_layout.specs.Names.{BODIES, AT_BODY_KIND}
 use Rattle.memory_layout.specs.Layout.{word, words_of}
 use Rattle.memory_layout.specs.Laid.{office}
 use Rattle.memory_writes.specs.Put.{over, put_words, put_reals}
-use Rattle.image_format.specs.Fields.{Fields, PRECISION-RECORD, list_places_of, fields_in}
+use Rattle.image_format.specs.Fields.{Fields, PRECISION_RECORD, list_places_of, fields_in}
 use Rattle.image_format.specs.Image.{count_in, fields_at}
 
 -- ---- one record
@@ -17,7 +17,7 @@ lists_laid (p ∷ places) l w = lists_laid places (drop 1 l) (over p (length (ge
 
 -- the numbers at the front of a record of table k: the image's, and of a body the office behind its kind (W-206), which the mark tells
 unfoldable pub front_of : ℕ → Fields → List ℕ
-front_of k f = cond (eqb k BODIES) (word f.words AT-BODY-KIND ∷ office f.office ∷ []) f.words
+front_of k f = cond (eqb k BODIES) (word f.words AT_BODY_KIND ∷ office f.office ∷ []) f.words
 
 -- the words of a record of table k, with these fields
 unfoldable pub record_laid : ℕ → Fields → List ℕ → List ℕ
@@ -37,10 +37,10 @@ module _ (room b : List ℕ) where
 
   -- the counts, and the first k tables
   unfoldable pub words_laid : ℕ → List ℕ → List ℕ
-  words_laid zero w = over 0 (fields_in PRECISION-RECORD b).words w
+  words_laid zero w = over 0 (fields_in PRECISION_RECORD b).words w
   words_laid (suc k) w = records_laid k (count_in b k) (words_laid k w)
 
   -- the precision, and the first k tables
   unfoldable pub reals_laid : ℕ → List Float → List Float
-  reals_laid zero x = over 0 (fields_in PRECISION-RECORD b).floats x
+  reals_laid zero x = over 0 (fields_in PRECISION_RECORD b).floats x
   reals_laid (suc k) x = floats_laid k (count_in b k) (reals_laid k x)

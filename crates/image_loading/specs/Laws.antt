@@ -15,7 +15,7 @@ use Rattle.memory_layout.specs.Laid.{office}
 use Rattle.memory_writes.specs.Put.{over, put_words, put_reals}
 use Rattle.memory_writes.specs.Over.{length_over, taken_back}
 use Rattle.image_format.specs.Bytes.{number, words_in, floats_in, lists_in}
-use Rattle.image_format.specs.Fields.{list_limits_of, PRECISION-RECORD, word_counts, list_counts, list_places_of, office_in, fields_in, behind}
+use Rattle.image_format.specs.Fields.{list_limits_of, PRECISION_RECORD, word_counts, list_counts, list_places_of, office_in, fields_in, behind}
 use Rattle.image_format.specs.Image.{count_in, behind_records, table_bytes, fields_at}
 use Rattle.image_laws.specs.Numbers.{length-words_in, flat}
 use Rattle.image_laws.specs.Sizes.{all-floats, places-many}
@@ -193,7 +193,7 @@ next-record room b k i at w w₀ x x₀ p l r er v ev lv y ey ly =
 
 pub first-table : (b : List ℕ) → 50 ≤ length b → Stands (table_bytes b 0) b 50
 unfolding table_bytes behind record_size lists_in flat
-first-table b h = record { inside = h; rest = ap (λ (n : ℕ). drop n b) (sym (record-size PRECISION-RECORD b)) }
+first-table b h = record { inside = h; rest = ap (λ (n : ℕ). drop n b) (sym (record-size PRECISION_RECORD b)) }
 
 -- one table more
 pub next-table : (room b : List ℕ) (k at : ℕ) (w w₀ : List ℕ) (x x₀ : List Float)
@@ -224,12 +224,12 @@ still-loadable room w v x y b l e f =
     }
 
 module _ (room b : List ℕ) where
-  pub words-laid : (k : ℕ) (w : List ℕ) → tables_laid room b k (over 0 (fields_in PRECISION-RECORD b).words w) ≡ words_laid room b k w
+  pub words-laid : (k : ℕ) (w : List ℕ) → tables_laid room b k (over 0 (fields_in PRECISION_RECORD b).words w) ≡ words_laid room b k w
   unfolding tables_laid words_laid
   words-laid zero w = refl
   words-laid (suc k) w = ap (records_laid room b k (count_in b k)) (words-laid k w)
 
-  pub reals-laid : (k : ℕ) (x : List Float) → table_floats_laid room b k (over 0 (fields_in PRECISION-RECORD b).floats x) ≡ reals_laid room b k x
+  pub reals-laid : (k : ℕ) (x : List Float) → table_floats_laid room b k (over 0 (fields_in PRECISION_RECORD b).floats x) ≡ reals_laid room b k x
   unfolding table_floats_laid reals_laid
   reals-laid zero x = refl
   reals-laid (suc k) x = ap (floats_laid room b k (count_in b k)) (reals-laid k x)

@@ -1,6 +1,6 @@
 // The parts of a record, from the bytes of an image into the words and floats of one record of the lent memory.
 ghost use Rattle.std.specs.Prelude.{◌≡◌, [], ◌∷◌, ◌+◌, ◌≤◌, length, get_or, drop};
-ghost use Rattle.memory_layout.specs.Names.{BODIES, AT-SHELL-FACES, AT-SHELL-WIRES, AT-SHELL-ACORNS};
+ghost use Rattle.memory_layout.specs.Names.{BODIES, AT_SHELL_FACES, AT_SHELL_WIRES, AT_SHELL_ACORNS};
 ghost use Rattle.memory_layout.specs.Layout.{word_strides, real_strides, word};
 ghost use Rattle.memory_layout.specs.Laid.{office};
 ghost use Rattle.memory_writes.specs.Put.{over};
@@ -38,9 +38,9 @@ fn load_list(bytes: &[u8], at: usize, w: &mut [u32], p: usize) -> usize
 }
 
 fn load_shell(bytes: &[u8], at: usize, w: &mut [u32]) -> usize
-    requires { ListsLie (AT-SHELL-FACES ∷ AT-SHELL-WIRES ∷ AT-SHELL-ACORNS ∷ []) bytes.now at (length w.old) }
-    ensures w_after { w.new ≡ lists_over (AT-SHELL-FACES ∷ AT-SHELL-WIRES ∷ AT-SHELL-ACORNS ∷ []) bytes.now at w.old }
-    ensures value { result ≡ behind_lists (AT-SHELL-FACES ∷ AT-SHELL-WIRES ∷ AT-SHELL-ACORNS ∷ []) bytes.now at }
+    requires { ListsLie (AT_SHELL_FACES ∷ AT_SHELL_WIRES ∷ AT_SHELL_ACORNS ∷ []) bytes.now at (length w.old) }
+    ensures w_after { w.new ≡ lists_over (AT_SHELL_FACES ∷ AT_SHELL_WIRES ∷ AT_SHELL_ACORNS ∷ []) bytes.now at w.old }
+    ensures value { result ≡ behind_lists (AT_SHELL_FACES ∷ AT_SHELL_WIRES ∷ AT_SHELL_ACORNS ∷ []) bytes.now at }
 {
     let wires = load_list(bytes, at, w, AT_SHELL_FACES);
     let acorns = load_list(bytes, wires, w, AT_SHELL_WIRES);

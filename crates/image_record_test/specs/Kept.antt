@@ -17,7 +17,7 @@ use Rattle.memory_layout.specs.Layout.{word}
 use Rattle.memory_layout.specs.Decode.{kind_of, tolerance_of}
 use Rattle.memory_layout.specs.Laid.{bit, sense, kind, maybe, tag, own}
 use Rattle.image_format.specs.Bytes.{same_bytes}
-use Rattle.image_format.specs.Fields.{marks, SECOND-BODY-MARK, mark_of, office_in}
+use Rattle.image_format.specs.Fields.{marks, SECOND_BODY_MARK, mark_of, office_in}
 use Rattle.image_laws.specs.Starts.{eqb-sym}
 use Rattle.image_record_test.specs.Parts.{mark_good, optional_good, bits_good, tolerance_good}
 
@@ -26,9 +26,9 @@ use Rattle.image_record_test.specs.Parts.{mark_good, optional_good, bits_good, t
 -- a body's mark is written again for the office that it tells
 pub mark-kept : (n : ℕ) → eqb n (mark_of BODIES (office_in BODIES n)) ≡ mark_good BODIES n
 unfolding mark_good
-mark-kept n = go (eqb n SECOND-BODY-MARK) refl
+mark-kept n = go (eqb n SECOND_BODY_MARK) refl
   where
-    go : (b : Bool) → eqb n SECOND-BODY-MARK ≡ b → eqb n (mark_of BODIES (cond b office-1 office-0)) ≡ (b || eqb n (word marks BODIES))
+    go : (b : Bool) → eqb n SECOND_BODY_MARK ≡ b → eqb n (mark_of BODIES (cond b office-1 office-0)) ≡ (b || eqb n (word marks BODIES))
     go true e = e
     go false e = refl
 

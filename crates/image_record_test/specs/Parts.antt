@@ -7,7 +7,7 @@ use Rattle.meaning.specs.Edits.{tolerance_ok}
 use Rattle.memory_layout.specs.Names.{BODIES}
 use Rattle.memory_layout.specs.Layout.{word}
 use Rattle.image_format.specs.Bytes.{number}
-use Rattle.image_format.specs.Fields.{marks, SECOND-BODY-MARK, word_counts, float_counts}
+use Rattle.image_format.specs.Fields.{marks, SECOND_BODY_MARK, word_counts, float_counts}
 
 -- how many bytes the mark, the numbers and the floats take
 abbrev pub fixed_size : ℕ → ℕ
@@ -75,7 +75,7 @@ fields_good k p = get_or fixed_tests k (λ _. true) p
 
 -- the mark of a record of table k: a body has two
 unfoldable pub mark_good : ℕ → ℕ → Bool
-mark_good k n = (eqb k BODIES && eqb n SECOND-BODY-MARK) || eqb n (word marks k)
+mark_good k n = (eqb k BODIES && eqb n SECOND_BODY_MARK) || eqb n (word marks k)
 
 unfoldable pub fixed_good : ℕ → List ℕ → Bool
 fixed_good k p = mark_good k (number 2 p) && fields_good k p

@@ -2,7 +2,7 @@
 use Rattle.std.specs.Prelude.{ℕ, suc, ◌+◌, ◌*◌, ◌-◌, ◌≤◌, ◌<◌, ◌≡◌, true, cond, ◌||◌, List, [], ◌∷◌, ◌++◌, map, eqb, length, get_or, take, replicate, Float}
 use Rattle.interval_arithmetic.specs.Ops.{zero_f}
 use Rattle.meaning.specs.Model.{Office, office-0}
-use Rattle.memory_layout.specs.Names.{BODIES, FACES, EDGES, BODY-REGIONS, REGION-SHELLS, SHELL-FACES, FACE-LOOPS, LOOP-FINS, EDGE-FINS, AT-BODY-OFFICE, AT-FACE-FRONT, AT-FACE-BACK, AT-FACE-SURFACE, AT-FACE-SENSE, AT-EDGE-TOLERANCE, AT-VERTEX-TOLERANCE, AT-CARRIER-TAG}
+use Rattle.memory_layout.specs.Names.{BODIES, FACES, EDGES, BODY_REGIONS, REGION_SHELLS, SHELL_FACES, FACE_LOOPS, LOOP_FINS, EDGE_FINS, AT_BODY_OFFICE, AT_FACE_FRONT, AT_FACE_BACK, AT_FACE_SURFACE, AT_FACE_SENSE, AT_EDGE_TOLERANCE, AT_VERTEX_TOLERANCE, AT_CARRIER_TAG}
 use Rattle.memory_layout.specs.Layout.{word_strides, word}
 use Rattle.memory_layout.specs.Decode.{list_at, office_of, body_of, region_of, shell_of, face_of, loop_of, fin_of, edge_of, vertex_of, carrier_of}
 use Rattle.memory_layout.specs.Readable.{record_ok}
@@ -41,7 +41,7 @@ pub record Kept (k : ℕ) (w : List ℕ) (x : List Float) : Type 0 where
 
 -- the office whose mark a record stands under
 unfoldable pub office_here : ℕ → List ℕ → Office
-office_here k w = cond (eqb k BODIES) (office_of (word w AT-BODY-OFFICE)) office-0
+office_here k w = cond (eqb k BODIES) (office_of (word w AT_BODY_OFFICE)) office-0
 
 -- the id at a place, 0 where the tag before it says none
 unfoldable pub id_behind : List ℕ → ℕ → ℕ
@@ -50,13 +50,13 @@ id_behind w at = cond (eqb (word w at) 0) 0 (word w (suc at))
 -- a face and an edge begin with three optional ids and a tag
 unfoldable pub three_ids : List ℕ → List ℕ
 three_ids w =
-    word w AT-FACE-FRONT
-    ∷ id_behind w AT-FACE-FRONT
-    ∷ word w AT-FACE-BACK
-    ∷ id_behind w AT-FACE-BACK
-    ∷ word w AT-FACE-SURFACE
-    ∷ id_behind w AT-FACE-SURFACE
-    ∷ word w AT-FACE-SENSE
+    word w AT_FACE_FRONT
+    ∷ id_behind w AT_FACE_FRONT
+    ∷ word w AT_FACE_BACK
+    ∷ id_behind w AT_FACE_BACK
+    ∷ word w AT_FACE_SURFACE
+    ∷ id_behind w AT_FACE_SURFACE
+    ∷ word w AT_FACE_SENSE
     ∷ []
 
 unfoldable pub head_of : ℕ → List ℕ → List ℕ
@@ -64,7 +64,7 @@ head_of k w = cond (eqb k FACES || eqb k EDGES) (three_ids w) (take (word word_c
 
 -- by table: the place of the tag that may leave the last floats unsaid, the tag that does, and how many they are
 abbrev pub tag_places : List ℕ
-tag_places = 0 ∷ 0 ∷ 0 ∷ 0 ∷ 0 ∷ 0 ∷ AT-EDGE-TOLERANCE ∷ AT-VERTEX-TOLERANCE ∷ AT-CARRIER-TAG ∷ AT-CARRIER-TAG ∷ []
+tag_places = 0 ∷ 0 ∷ 0 ∷ 0 ∷ 0 ∷ 0 ∷ AT_EDGE_TOLERANCE ∷ AT_VERTEX_TOLERANCE ∷ AT_CARRIER_TAG ∷ AT_CARRIER_TAG ∷ []
 
 abbrev pub quiet_tags : List ℕ
 quiet_tags = 0 ∷ 0 ∷ 0 ∷ 0 ∷ 0 ∷ 0 ∷ 0 ∷ 0 ∷ 2 ∷ 2 ∷ []
@@ -90,7 +90,7 @@ record_length k w = 2 + 4 * word word_counts k + 8 * word float_counts k + lengt
 
 -- the first of a record's lists, by its number in `Entries.antt` of `memory_layout`
 abbrev pub first_lists : List ℕ
-first_lists = BODY-REGIONS ∷ REGION-SHELLS ∷ SHELL-FACES ∷ FACE-LOOPS ∷ LOOP-FINS ∷ 0 ∷ EDGE-FINS ∷ 0 ∷ 0 ∷ 0 ∷ []
+first_lists = BODY_REGIONS ∷ REGION_SHELLS ∷ SHELL_FACES ∷ FACE_LOOPS ∷ LOOP_FINS ∷ 0 ∷ EDGE_FINS ∷ 0 ∷ 0 ∷ 0 ∷ []
 
 -- the words of a record of table k, whose lists stand whole
 pub record Listed (k : ℕ) (w : List ℕ) : Type 0 where

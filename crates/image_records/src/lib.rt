@@ -2,7 +2,7 @@
 #![tactic(auto)]
 
 ghost use Rattle.std.specs.Prelude.{◌≡◌, suc, ◌+◌, ◌<◌, ◌≤◌, length, take, drop};
-ghost use Rattle.memory_layout.specs.Names.{BODIES, AT-BODY-OFFICE};
+ghost use Rattle.memory_layout.specs.Names.{BODIES, AT_BODY_OFFICE};
 ghost use Rattle.memory_layout.specs.Layout.{word};
 ghost use Rattle.memory_layout.specs.Decode.{office_of};
 ghost use Rattle.memory_layout.specs.Fit.{Held};
@@ -67,8 +67,8 @@ const QUIET_FLOATS: [usize; 10] = [0, 0, 0, 0, 0, 0, 1, 1, 6, 6];
 
 // A body's mark, by its office.
 fn body_mark(w: &[u32]) -> u32
-    requires { AT-BODY-OFFICE < length w.now }
-    ensures { result ≡ mark_of BODIES (office_of (word w.now AT-BODY-OFFICE)) }
+    requires { AT_BODY_OFFICE < length w.now }
+    ensures { result ≡ mark_of BODIES (office_of (word w.now AT_BODY_OFFICE)) }
 {
     if w[AT_BODY_OFFICE] == 0 {
         return MARKS[BODIES];

@@ -22,7 +22,7 @@ use Rattle.memory_layout.specs.Laws.{capacity-le, words-length, reals-length, be
 use Rattle.memory_layout.specs.TableRows.{rows_fit, table-rows, words_row, reals-row}
 use Rattle.memory_writes.specs.Put.{over}
 use Rattle.image_format.specs.Bytes.{little, words, floats, lists}
-use Rattle.image_format.specs.Fields.{PRECISION-RECORD, record_image}
+use Rattle.image_format.specs.Fields.{PRECISION_RECORD, record_image}
 use Rattle.image_format.specs.Image.{precision_fields, table_image, records_image, version_image, image_of}
 use Rattle.image_laws.specs.Numbers.{length-little, length-words, length-floats}
 use Rattle.image_records.specs.Kept.{fields_of, Kept, record_length}
@@ -241,14 +241,14 @@ module _ (room w : List ℕ) (x : List Float) where
 
   -- ---- the whole
 
-  precision-parts : Sized room w x → record_image PRECISION-RECORD (precision_fields (decode room w x)) ≡ precision_bytes w x
+  precision-parts : Sized room w x → record_image PRECISION_RECORD (precision_fields (decode room w x)) ≡ precision_bytes w x
   unfolding precision_bytes record_image decode lists entries
   precision-parts s =
       append-nil _
       ∙ ap (λ (l : List ℕ). little 2 0x5250 ++ words l ++ floats (entries nan x 1)) (written_out 0 w 10 (ten-words room w x s))
       ∙ ap (λ (l : List Float). little 2 0x5250 ++ words (take 10 w) ++ floats l) (written_out nan x 1 (precision-there room w x s))
 
-  behind-precision : records_image (decode room w x) ≡ record_image PRECISION-RECORD (precision_fields (decode room w x)) ++ tables_of room w x 10
+  behind-precision : records_image (decode room w x) ≡ record_image PRECISION_RECORD (precision_fields (decode room w x)) ++ tables_of room w x 10
   unfolding tables_of table_of records_image table_image decode fields_of run joined
   behind-precision = simp (append_assoc, append-nil)
 

@@ -7,7 +7,7 @@ use Rattle.memory_layout.specs.Decode.{version_of}
 use Rattle.memory_layout.specs.Fit.{Small}
 use Rattle.memory_layout.specs.TableRows.{row, TableRows}
 use Rattle.image_format.specs.Bytes.{little, words, floats}
-use Rattle.image_format.specs.Fields.{PRECISION-RECORD, marks, record_image}
+use Rattle.image_format.specs.Fields.{PRECISION_RECORD, marks, record_image}
 use Rattle.image_format.specs.Image.{version_image}
 use Rattle.image_records.specs.Kept.{fields_of, Kept, record_length, Listed}
 
@@ -68,7 +68,7 @@ module _ (room w : List ℕ) where
 
 -- the precision's record, of the ten used counts and the first float
 unfoldable pub precision_bytes : List ℕ → List Float → List ℕ
-precision_bytes w x = little 2 (word marks PRECISION-RECORD) ++ words (take 10 w) ++ floats (take 1 x)
+precision_bytes w x = little 2 (word marks PRECISION_RECORD) ++ words (take 10 w) ++ floats (take 1 x)
 
 module _ (room w : List ℕ) (x : List Float) where
   unfoldable pub table_of : ℕ → List ℕ

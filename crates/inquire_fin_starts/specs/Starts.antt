@@ -6,14 +6,14 @@ use Rattle.meaning.specs.Lists.{all, the}
 use Rattle.meaning.specs.Model.{Model, point_of}
 use Rattle.meaning.specs.Refuse.{first_of}
 use Rattle.meaning.specs.Inquire.{start_of}
-use Rattle.memory_layout.specs.Names.{FINS, EDGES, VERTICES, AT-FIN-SENSE, AT-EDGE-START, AT-EDGE-END}
+use Rattle.memory_layout.specs.Names.{FINS, EDGES, VERTICES, AT_FIN_SENSE, AT_EDGE_START, AT_EDGE_END}
 use Rattle.memory_layout.specs.Layout.{word, words_of}
 use Rattle.memory_layout.specs.Decode.{flag_at}
 use Rattle.walk_sources.specs.Sources.{fin_edge}
 
 -- where an edge's words have the start of a fin, by the fin's sense
 unfoldable pub start_place : ℕ → ℕ
-start_place sense = cond (eqb sense 0) AT-EDGE-START AT-EDGE-END
+start_place sense = cond (eqb sense 0) AT_EDGE_START AT_EDGE_END
 
 -- an end at a place of an edge's words: none 7, its vertex missing 2
 unfoldable pub end_number : List ℕ → ℕ → ℕ → ℕ
@@ -26,10 +26,10 @@ start_point m i = point_of m (the (start_of m i))
 module _ (room w : List ℕ) where
   -- `start_refusal` of meaning
   unfoldable pub start_number : ℕ → ℕ
-  start_number i = end_number (words_of room w EDGES (fin_edge room w i)) (start_place (word (words_of room w FINS i) AT-FIN-SENSE)) (word w VERTICES)
+  start_number i = end_number (words_of room w EDGES (fin_edge room w i)) (start_place (word (words_of room w FINS i) AT_FIN_SENSE)) (word w VERTICES)
 
   unfoldable pub start_id : ℕ → ℕ
-  start_id i = word (words_of room w EDGES (fin_edge room w i)) (start_place (word (words_of room w FINS i) AT-FIN-SENSE) + 1)
+  start_id i = word (words_of room w EDGES (fin_edge room w i)) (start_place (word (words_of room w FINS i) AT_FIN_SENSE) + 1)
 
   -- the fin and its edge exist
   unfoldable pub fin_whole : ℕ → Bool

@@ -5,7 +5,7 @@
 ghost use Rattle.std.specs.Prelude.{◌≡◌, true, ◌+◌, ◌≤◌, length};
 ghost use Rattle.meaning.specs.Lists.{all};
 ghost use Rattle.meaning.specs.Refuse.{first_of};
-ghost use Rattle.memory_layout.specs.Names.{FINS, EDGES, AT-FIN-SENSE};
+ghost use Rattle.memory_layout.specs.Names.{FINS, EDGES, AT_FIN_SENSE};
 ghost use Rattle.memory_layout.specs.Layout.{word, words_of};
 ghost use Rattle.memory_layout.specs.Decode.{decode};
 ghost use Rattle.memory_layout.specs.Fit.{Fit, Lists};
@@ -51,7 +51,7 @@ pub fn edge_of<'a>(room: &[usize; 10], words: &'a [u32], i: usize) -> &'a [u32]
 pub fn place_of(room: &[usize; 10], words: &[u32], i: usize) -> usize
     requires lists { Lists room.now words.now }
     requires whole { Whole room.now words.now i }
-    ensures { (result ≡ start_place (word (words_of room.now words.now FINS i) AT-FIN-SENSE)) × (result ≤ 2) }
+    ensures { (result ≡ start_place (word (words_of room.now words.now FINS i) AT_FIN_SENSE)) × (result ≤ 2) }
 {
     let fin = words_of(room, words, FINS, i);
     start_place(fin[AT_FIN_SENSE])

@@ -2,7 +2,7 @@
 ghost use Rattle.std.specs.Prelude.{◌≡◌, true, ◌<◌, ltb};
 ghost use Rattle.meaning.specs.Lists.{all};
 ghost use Rattle.meaning.specs.Refuse.{first_of};
-ghost use Rattle.memory_layout.specs.Names.{SHELLS, REGION-SHELLS};
+ghost use Rattle.memory_layout.specs.Names.{SHELLS, REGION_SHELLS};
 ghost use Rattle.memory_layout.specs.Layout.{word};
 ghost use Rattle.memory_layout.specs.Entries.{list_tables};
 ghost use Rattle.memory_layout.specs.Fit.{Fit};
@@ -97,7 +97,7 @@ pub fn regions_refusal(
     regions: &[u32],
 ) -> u32
     requires fit { Fit room.now words.now reals.now }
-    requires regions_value { all (followed room.now words.now REGION-SHELLS) regions.now ≡ true }
+    requires regions_value { all (followed room.now words.now REGION_SHELLS) regions.now ≡ true }
     ensures { result ≡ first_of (region_tested room.now words.now reals.now test) regions.now }
 {
     let mut n = 0;

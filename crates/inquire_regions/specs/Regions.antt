@@ -4,7 +4,7 @@ use Rattle.interval_arithmetic.specs.Ops.{zero_f}
 use Rattle.meaning.specs.Lists.{all, joined}
 use Rattle.meaning.specs.Model.{Model, region}
 use Rattle.meaning.specs.Inquire.{Side, sides_of, sides_refusal, sum_volumes}
-use Rattle.memory_layout.specs.Names.{REGIONS, REGION-SHELLS, SHELL-FACES, AT-REGION-SOLID}
+use Rattle.memory_layout.specs.Names.{REGIONS, REGION_SHELLS, SHELL_FACES, AT_REGION_SOLID}
 use Rattle.memory_layout.specs.Layout.{words_of}
 use Rattle.memory_layout.specs.Decode.{flag_at}
 use Rattle.memory_layout.specs.Entries.{list_of}
@@ -30,11 +30,11 @@ region_sides m r = cond (region m r).solid (joined (sides_of m) (region m r).she
 module _ (room w : List ℕ) where
   -- the shells of a region that is solid
   unfoldable pub solid_shells : ℕ → List ℕ
-  solid_shells r = cond (flag_at (words_of room w REGIONS r) AT-REGION-SOLID) (list_of room w REGION-SHELLS r) []
+  solid_shells r = cond (flag_at (words_of room w REGIONS r) AT_REGION_SOLID) (list_of room w REGION_SHELLS r) []
 
   -- all that the volume follows exists: from a shell on, and from a region on
   unfoldable pub faces_whole : ℕ → Bool
-  faces_whole s = all (face_whole room w) (list_of room w SHELL-FACES s)
+  faces_whole s = all (face_whole room w) (list_of room w SHELL_FACES s)
 
   unfoldable pub region_whole : ℕ → Bool
-  region_whole r = followed room w REGION-SHELLS r && all faces_whole (list_of room w REGION-SHELLS r)
+  region_whole r = followed room w REGION_SHELLS r && all faces_whole (list_of room w REGION_SHELLS r)

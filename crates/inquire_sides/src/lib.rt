@@ -5,7 +5,7 @@
 ghost use Rattle.std.specs.Prelude.{◌≡◌, true, ◌+◌, ◌<◌, ◌≤◌, length};
 ghost use Rattle.meaning.specs.Lists.{all};
 ghost use Rattle.meaning.specs.Inquire.{alike, side_volume};
-ghost use Rattle.memory_layout.specs.Names.{FACE-LOOPS};
+ghost use Rattle.memory_layout.specs.Names.{FACE_LOOPS};
 ghost use Rattle.memory_layout.specs.Decode.{decode};
 ghost use Rattle.memory_layout.specs.Entries.{list_of};
 ghost use Rattle.memory_layout.specs.Fit.{Fit, Lists};
@@ -52,7 +52,7 @@ fn bound_refusal(w: &[u32], loops: usize, shell: u32) -> u32
 pub fn rim<'a>(room: &[usize; 10], words: &'a [u32], face: usize) -> &'a [u32]
     requires lists { Lists room.now words.now }
     requires face_value { face_whole room.now words.now face ≡ true }
-    requires face_len { length (list_of room.now words.now FACE-LOOPS face) ≡ 1 }
+    requires face_len { length (list_of room.now words.now FACE_LOOPS face) ≡ 1 }
     ensures { result.now ≡ rim_of room.now words.now face }
 {
     let loops = list(room, words, FACE_LOOPS, face);

@@ -99,15 +99,15 @@ rows-hold = refl
 
 -- ---- the stone before and after A is split at 0.25
 
-abbrev pub split-stone : Model
-split-stone = model_after largest stone 0 (part 2)
+abbrev pub split_stone : Model
+split_stone = model_after largest stone 0 (part 2)
 
 -- both are fit to saw and well formed
-pub stones-fit : map (λ m. fit_to_saw m 0) (stone ∷ split-stone ∷ []) ≡ given true ∷ given true ∷ []
+pub stones-fit : map (λ m. fit_to_saw m 0) (stone ∷ split_stone ∷ []) ≡ given true ∷ given true ∷ []
 unfolding computing
 stones-fit = refl
 
-pub stones-formed : map (well_formed largest) (stone ∷ split-stone ∷ []) ≡ true ∷ true ∷ []
+pub stones-formed : map (well_formed largest) (stone ∷ split_stone ∷ []) ≡ true ∷ true ∷ []
 unfolding computing
 stones-formed = refl
 
@@ -121,6 +121,6 @@ printed m =
     ∷ length (topological_report m 0).faults
     ∷ []
 
-pub trialstone : printed stone ++ printed split-stone ≡ 6 ∷ 12 ∷ 8 ∷ 24 ∷ 0 ∷ 6 ∷ 13 ∷ 9 ∷ 26 ∷ 0 ∷ []
+pub trialstone : printed stone ++ printed split_stone ≡ 6 ∷ 12 ∷ 8 ∷ 24 ∷ 0 ∷ 6 ∷ 13 ∷ 9 ∷ 26 ∷ 0 ∷ []
 unfolding computing
 trialstone = refl

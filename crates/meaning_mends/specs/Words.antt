@@ -6,13 +6,13 @@ use Rattle.meaning_mends.specs.Mends.{child_table, Change, renamed, enlisted}
 abbrev pub PARENT : ℕ
 PARENT = 0
 
-abbrev pub EDGES-FINS : ℕ
-EDGES-FINS = 1
+abbrev pub EDGES_FINS : ℕ
+EDGES_FINS = 1
 
 -- a parent has no place, and a fin that is added no old value: 0 stands there
 abbrev pub change_words : Change → List ℕ
 change_words (renamed k i old new) = child_table k ∷ i ∷ PARENT ∷ 0 ∷ old ∷ new ∷ []
-change_words (enlisted e place i) = 6 ∷ e ∷ EDGES-FINS ∷ place ∷ 0 ∷ i ∷ []
+change_words (enlisted e place i) = 6 ∷ e ∷ EDGES_FINS ∷ place ∷ 0 ∷ i ∷ []
 
 unfoldable pub changes_words : List Change → List ℕ
 changes_words [] = []

@@ -3,7 +3,7 @@ use Rattle.std.specs.Prelude.{ℕ, ◌+◌, ◌≡◌, Bool, ◌&&◌, List, [],
 use Rattle.std.proofs.Math.Path.{refl}
 use Rattle.meaning.specs.Lists.{run}
 use Rattle.meaning.specs.Model.{Limits, largest}
-use Rattle.memory_layout.specs.Names.{BODIES, REGIONS, SHELLS, FACES, LOOPS, EDGES, AT-BODY-KIND, AT-BODY-OFFICE, AT-BODY-REGIONS, AT-REGION-SOLID, AT-REGION-SHELLS, AT-SHELL-FACES, AT-SHELL-WIRES, AT-SHELL-ACORNS, AT-FACE-FRONT, AT-FACE-BACK, AT-FACE-SURFACE, AT-FACE-SENSE, AT-FACE-LOOPS, AT-LOOP-FINS, AT-FIN-PCURVE, AT-EDGE-START, AT-EDGE-END, AT-EDGE-CURVE, AT-EDGE-TOLERANCE, AT-EDGE-FINS, AT-VERTEX-TOLERANCE, AT-CARRIER-TAG, FLOAT-EDGE-TOLERANCE}
+use Rattle.memory_layout.specs.Names.{BODIES, REGIONS, SHELLS, FACES, LOOPS, EDGES, AT_BODY_KIND, AT_BODY_OFFICE, AT_BODY_REGIONS, AT_REGION_SOLID, AT_REGION_SHELLS, AT_SHELL_FACES, AT_SHELL_WIRES, AT_SHELL_ACORNS, AT_FACE_FRONT, AT_FACE_BACK, AT_FACE_SURFACE, AT_FACE_SENSE, AT_FACE_LOOPS, AT_LOOP_FINS, AT_FIN_PCURVE, AT_EDGE_START, AT_EDGE_END, AT_EDGE_CURVE, AT_EDGE_TOLERANCE, AT_EDGE_FINS, AT_VERTEX_TOLERANCE, AT_CARRIER_TAG, FLOAT_EDGE_TOLERANCE}
 use Rattle.memory_layout.specs.Layout.{word_strides, largest_tables, word, real}
 use Rattle.memory_layout.specs.Readable.{own_ok, record_ok}
 use Rattle.memory_layout.specs.Entries.{list_limits}
@@ -26,21 +26,21 @@ lists-are = refl
 
 -- how many words a record takes: it ends behind its last list, which has a count and room for as many entries as 01 allows, or behind its last field where it has none
 pub strides-are : word_strides
-    ≡ (AT-BODY-REGIONS + 1 + largest.body_regions)
-    ∷ (AT-REGION-SHELLS + 1 + largest.region_shells)
-    ∷ (AT-SHELL-ACORNS + 1 + largest.shell_acorn_vertices)
-    ∷ (AT-FACE-LOOPS + 1 + largest.face_loops)
-    ∷ (AT-LOOP-FINS + 1 + largest.loop_fins)
-    ∷ (AT-FIN-PCURVE + 1)
-    ∷ (AT-EDGE-FINS + 1 + largest.edge_fins)
-    ∷ (AT-VERTEX-TOLERANCE + 1)
-    ∷ (AT-CARRIER-TAG + 1)
-    ∷ (AT-CARRIER-TAG + 1)
+    ≡ (AT_BODY_REGIONS + 1 + largest.body_regions)
+    ∷ (AT_REGION_SHELLS + 1 + largest.region_shells)
+    ∷ (AT_SHELL_ACORNS + 1 + largest.shell_acorn_vertices)
+    ∷ (AT_FACE_LOOPS + 1 + largest.face_loops)
+    ∷ (AT_LOOP_FINS + 1 + largest.loop_fins)
+    ∷ (AT_FIN_PCURVE + 1)
+    ∷ (AT_EDGE_FINS + 1 + largest.edge_fins)
+    ∷ (AT_VERTEX_TOLERANCE + 1)
+    ∷ (AT_CARRIER_TAG + 1)
+    ∷ (AT_CARRIER_TAG + 1)
     ∷ []
 strides-are = refl
 
 -- of a shell's three lists each begins where the one before it ends
-pub shell-lists-are : (AT-SHELL-WIRES ≡ AT-SHELL-FACES + 1 + largest.shell_faces) × (AT-SHELL-ACORNS ≡ AT-SHELL-WIRES + 1 + largest.shell_wire_edges)
+pub shell-lists-are : (AT_SHELL_WIRES ≡ AT_SHELL_FACES + 1 + largest.shell_faces) × (AT_SHELL_ACORNS ≡ AT_SHELL_WIRES + 1 + largest.shell_wire_edges)
 shell-lists-are = (refl, refl)
 
 -- a split: 01, "capacity is what is lent, at most these"; the lists are no shorter and no longer
@@ -53,27 +53,27 @@ split-lists-are room = refl
 
 -- the lists that refusal 9 allows, beside the tags of their records
 module _ (w : List ℕ) (x : List Float) where
-  pub body-test : record_ok BODIES w x ≡ (leb (word w AT-BODY-KIND) 4 && leb (word w AT-BODY-OFFICE) 1 && leb (word w AT-BODY-REGIONS) largest.body_regions)
+  pub body-test : record_ok BODIES w x ≡ (leb (word w AT_BODY_KIND) 4 && leb (word w AT_BODY_OFFICE) 1 && leb (word w AT_BODY_REGIONS) largest.body_regions)
   unfolding record_ok
   body-test = refl
 
-  pub region-test : record_ok REGIONS w x ≡ (leb (word w AT-REGION-SOLID) 1 && leb (word w AT-REGION-SHELLS) largest.region_shells)
+  pub region-test : record_ok REGIONS w x ≡ (leb (word w AT_REGION_SOLID) 1 && leb (word w AT_REGION_SHELLS) largest.region_shells)
   unfolding record_ok
   region-test = refl
 
-  pub shell-test : record_ok SHELLS w x ≡ (leb (word w AT-SHELL-FACES) largest.shell_faces && leb (word w AT-SHELL-WIRES) largest.shell_wire_edges && leb (word w AT-SHELL-ACORNS) largest.shell_acorn_vertices)
+  pub shell-test : record_ok SHELLS w x ≡ (leb (word w AT_SHELL_FACES) largest.shell_faces && leb (word w AT_SHELL_WIRES) largest.shell_wire_edges && leb (word w AT_SHELL_ACORNS) largest.shell_acorn_vertices)
   unfolding record_ok
   shell-test = refl
 
-  pub face-test : record_ok FACES w x ≡ (leb (word w AT-FACE-FRONT) 1 && leb (word w AT-FACE-BACK) 1 && leb (word w AT-FACE-SURFACE) 1 && leb (word w AT-FACE-SENSE) 1 && leb (word w AT-FACE-LOOPS) largest.face_loops)
+  pub face-test : record_ok FACES w x ≡ (leb (word w AT_FACE_FRONT) 1 && leb (word w AT_FACE_BACK) 1 && leb (word w AT_FACE_SURFACE) 1 && leb (word w AT_FACE_SENSE) 1 && leb (word w AT_FACE_LOOPS) largest.face_loops)
   unfolding record_ok
   face-test = refl
 
-  pub loop-test : record_ok LOOPS w x ≡ leb (word w AT-LOOP-FINS) largest.loop_fins
+  pub loop-test : record_ok LOOPS w x ≡ leb (word w AT_LOOP_FINS) largest.loop_fins
   unfolding record_ok
   loop-test = refl
 
   pub edge_test : record_ok EDGES w x
-      ≡ (leb (word w AT-EDGE-START) 1 && leb (word w AT-EDGE-END) 1 && leb (word w AT-EDGE-CURVE) 1 && leb (word w AT-EDGE-TOLERANCE) 1 && leb (word w AT-EDGE-FINS) largest.edge_fins && own_ok (word w AT-EDGE-TOLERANCE) (real x FLOAT-EDGE-TOLERANCE))
+      ≡ (leb (word w AT_EDGE_START) 1 && leb (word w AT_EDGE_END) 1 && leb (word w AT_EDGE_CURVE) 1 && leb (word w AT_EDGE_TOLERANCE) 1 && leb (word w AT_EDGE_FINS) largest.edge_fins && own_ok (word w AT_EDGE_TOLERANCE) (real x FLOAT_EDGE_TOLERANCE))
   unfolding record_ok
   edge_test = refl

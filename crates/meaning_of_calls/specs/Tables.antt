@@ -7,7 +7,7 @@ use Rattle.meaning.specs.Edits.{tolerance_ok}
 use Rattle.meaning.specs.Model.{edge, vertex}
 use Rattle.meaning.specs.Formed.{Readable}
 use Rattle.meaning_list_laws.specs.Tests.{and_both}
-use Rattle.memory_layout.specs.Names.{EDGES, VERTICES, FLOAT-EDGE-TOLERANCE, FLOAT-VERTEX-TOLERANCE}
+use Rattle.memory_layout.specs.Names.{EDGES, VERTICES, FLOAT_EDGE_TOLERANCE, FLOAT_VERTEX_TOLERANCE}
 use Rattle.memory_layout.specs.Layout.{word, real, words_of, reals_of}
 use Rattle.memory_layout.specs.Decode.{decode}
 use Rattle.memory_layout.specs.Readable.{own_ok, record_ok, readable}
@@ -25,16 +25,16 @@ module _ (room w : List ℕ) (x : List Float) where
   unfolding record_ok decode
   tolerance-of-edge f i h =
       let s = words_of room w EDGES i in
-      own-or-none (eqb (word s 6) 0) (real (reals_of room x EDGES i) FLOAT-EDGE-TOLERANCE)
-      (and_both (leb (word s 0) 1 && leb (word s 2) 1 && leb (word s 4) 1 && leb (word s 6) 1 && leb (word s 7) 8) (own_ok (word s 6) (real (reals_of room x EDGES i) FLOAT-EDGE-TOLERANCE))
+      own-or-none (eqb (word s 6) 0) (real (reals_of room x EDGES i) FLOAT_EDGE_TOLERANCE)
+      (and_both (leb (word s 0) 1 && leb (word s 2) 1 && leb (word s 4) 1 && leb (word s 6) 1 && leb (word s 7) 8) (own_ok (word s 6) (real (reals_of room x EDGES i) FLOAT_EDGE_TOLERANCE))
       (f.rows 6 i (omega arith) h)).1
 
   tolerance-of-vertex : Fit room w x → (i : ℕ) → i < word w VERTICES → tolerance_ok (vertex (decode room w x) i).tolerance ≡ true
   unfolding record_ok decode
   tolerance-of-vertex f i h =
       let s = words_of room w VERTICES i in
-      own-or-none (eqb (word s 0) 0) (real (reals_of room x VERTICES i) FLOAT-VERTEX-TOLERANCE)
-      (and_both (leb (word s 0) 1) (own_ok (word s 0) (real (reals_of room x VERTICES i) FLOAT-VERTEX-TOLERANCE)) (f.rows 7 i (omega arith) h)).1
+      own-or-none (eqb (word s 0) 0) (real (reals_of room x VERTICES i) FLOAT_VERTEX_TOLERANCE)
+      (and_both (leb (word s 0) 1) (own_ok (word s 0) (real (reals_of room x VERTICES i) FLOAT_VERTEX_TOLERANCE)) (f.rows 7 i (omega arith) h)).1
 
   -- a memory that is not refused with 9 holds a model within the lent capacities and 01's lists, whose precision and tolerances an insert would take
   pub tables-readable : readable room w x ≡ true → Readable (limits room) (decode room w x)

@@ -24,8 +24,8 @@ walked m = stop_words (faces_stop m 0 0) ∷ stop_words (edges_stop m 0 0) ∷ s
 abbrev all_three : List ℕ → List (List ℕ)
 all_three s = s ∷ s ∷ s ∷ []
 
-abbrev last-two : List ℕ → List (List ℕ)
-last-two s = none_told ∷ s ∷ s ∷ []
+abbrev last_two : List ℕ → List (List ℕ)
+last_two s = none_told ∷ s ∷ s ∷ []
 
 abbrev last_one : List ℕ → List (List ℕ)
 last_one s = none_told ∷ none_told ∷ s ∷ []
@@ -37,9 +37,9 @@ walks =
     ∷ (regions_are (0 ∷ 9 ∷ 8 ∷ []) blade gives all_three (2 ∷ 1 ∷ 2 ∷ 1 ∷ 9 ∷ 0 ∷ 0 ∷ []))
     ∷ (with_region 0 (a_region 0 false (0 ∷ 9 ∷ [])) blade gives all_three (2 ∷ 1 ∷ 3 ∷ 2 ∷ 9 ∷ 1 ∷ 0 ∷ []))
     -- a face on the shell that lists it first, a loop of a face, a fin of a loop
-    ∷ (with_shell 1 (a_shell 1 (0 ∷ 9 ∷ [])) stone gives last-two (2 ∷ 2 ∷ 1 ∷ 3 ∷ 9 ∷ 2 ∷ 1 ∷ []))
-    ∷ (loops_are (0 ∷ 9 ∷ []) blade gives last-two (2 ∷ 2 ∷ 2 ∷ 4 ∷ 9 ∷ 3 ∷ 0 ∷ []))
-    ∷ (with_loop 3 (a_loop 3 (12 ∷ 99 ∷ 14 ∷ 15 ∷ [])) stone gives last-two (2 ∷ 2 ∷ 3 ∷ 5 ∷ 99 ∷ 4 ∷ 3 ∷ []))
+    ∷ (with_shell 1 (a_shell 1 (0 ∷ 9 ∷ [])) stone gives last_two (2 ∷ 2 ∷ 1 ∷ 3 ∷ 9 ∷ 2 ∷ 1 ∷ []))
+    ∷ (loops_are (0 ∷ 9 ∷ []) blade gives last_two (2 ∷ 2 ∷ 2 ∷ 4 ∷ 9 ∷ 3 ∷ 0 ∷ []))
+    ∷ (with_loop 3 (a_loop 3 (12 ∷ 99 ∷ 14 ∷ 15 ∷ [])) stone gives last_two (2 ∷ 2 ∷ 3 ∷ 5 ∷ 99 ∷ 4 ∷ 3 ∷ []))
     -- an edge on the fin that names it first, a wire edge on its shell
     ∷ (with_fin 13 (a_fin 3 88 positive) (with_fin 6 (a_fin 1 88 negative) stone) gives last_one (2 ∷ 3 ∷ 1 ∷ 6 ∷ 88 ∷ 5 ∷ 6 ∷ []))
     ∷ (shell_is 1 [] (0 ∷ 77 ∷ []) [] stone gives last_one (2 ∷ 3 ∷ 1 ∷ 6 ∷ 77 ∷ 2 ∷ 1 ∷ []))

@@ -10,7 +10,7 @@ use Rattle.geom_lines_planes.specs.declared.tolerance.Version.TheVariants.{First
 use Rattle.geom_carriers.specs.declared.Carrier.{Carrier}
 use Rattle.geom_carriers.specs.declared.Carrier.TheVariants as Carriers
 use Rattle.meaning.specs.Model.{Model, Table, BodyKind, acorn, wire, sheet, solid, general, Sense, positive, negative, Office, office-0, office-1, Body, Region, Shell, Face, Loop, Fin, Edge, Vertex}
-use Rattle.memory_layout.specs.Names.{BODIES, REGIONS, SHELLS, FACES, LOOPS, FINS, EDGES, VERTICES, CURVES, SURFACES, AT-BODY-KIND, AT-BODY-OFFICE, AT-BODY-REGIONS, AT-REGION-BODY, AT-REGION-SOLID, AT-REGION-SHELLS, AT-SHELL-REGION, AT-SHELL-FACES, AT-SHELL-WIRES, AT-SHELL-ACORNS, AT-FACE-FRONT, AT-FACE-BACK, AT-FACE-SURFACE, AT-FACE-SENSE, AT-FACE-LOOPS, AT-LOOP-FACE, AT-LOOP-FINS, AT-FIN-LOOP, AT-FIN-EDGE, AT-FIN-SENSE, AT-FIN-PCURVE, AT-EDGE-START, AT-EDGE-END, AT-EDGE-CURVE, AT-EDGE-TOLERANCE, AT-EDGE-FINS, AT-VERTEX-TOLERANCE, AT-CARRIER-TAG, VERSION, PRECISION, FLOAT-EDGE-TOLERANCE, FLOAT-VERTEX-POINT, FLOAT-VERTEX-TOLERANCE, FLOAT-CARRIER-ORIGIN, FLOAT-CARRIER-DIRECTION}
+use Rattle.memory_layout.specs.Names.{BODIES, REGIONS, SHELLS, FACES, LOOPS, FINS, EDGES, VERTICES, CURVES, SURFACES, AT_BODY_KIND, AT_BODY_OFFICE, AT_BODY_REGIONS, AT_REGION_BODY, AT_REGION_SOLID, AT_REGION_SHELLS, AT_SHELL_REGION, AT_SHELL_FACES, AT_SHELL_WIRES, AT_SHELL_ACORNS, AT_FACE_FRONT, AT_FACE_BACK, AT_FACE_SURFACE, AT_FACE_SENSE, AT_FACE_LOOPS, AT_LOOP_FACE, AT_LOOP_FINS, AT_FIN_LOOP, AT_FIN_EDGE, AT_FIN_SENSE, AT_FIN_PCURVE, AT_EDGE_START, AT_EDGE_END, AT_EDGE_CURVE, AT_EDGE_TOLERANCE, AT_EDGE_FINS, AT_VERTEX_TOLERANCE, AT_CARRIER_TAG, VERSION, PRECISION, FLOAT_EDGE_TOLERANCE, FLOAT_VERTEX_POINT, FLOAT_VERTEX_TOLERANCE, FLOAT_CARRIER_ORIGIN, FLOAT_CARRIER_DIRECTION}
 use Rattle.memory_layout.specs.Layout.{word, real, words_of, reals_of}
 
 -- ---- what stands at a place of a record
@@ -57,41 +57,41 @@ vec_at x at = record { x = real x at; y = real x (at + 1); z = real x (at + 2) }
 -- ---- the records
 
 abbrev pub body_of : List ℕ → Body
-body_of w = record { kind = kind_of (word w AT-BODY-KIND); office = office_of (word w AT-BODY-OFFICE); regions = list_at w AT-BODY-REGIONS }
+body_of w = record { kind = kind_of (word w AT_BODY_KIND); office = office_of (word w AT_BODY_OFFICE); regions = list_at w AT_BODY_REGIONS }
 
 abbrev pub region_of : List ℕ → Region
-region_of w = record { body = word w AT-REGION-BODY; solid = flag_at w AT-REGION-SOLID; shells = list_at w AT-REGION-SHELLS }
+region_of w = record { body = word w AT_REGION_BODY; solid = flag_at w AT_REGION_SOLID; shells = list_at w AT_REGION_SHELLS }
 
 abbrev pub shell_of : List ℕ → Shell
-shell_of w = record { region = word w AT-SHELL-REGION; faces = list_at w AT-SHELL-FACES; wire_edges = list_at w AT-SHELL-WIRES; acorn_vertices = list_at w AT-SHELL-ACORNS }
+shell_of w = record { region = word w AT_SHELL_REGION; faces = list_at w AT_SHELL_FACES; wire_edges = list_at w AT_SHELL_WIRES; acorn_vertices = list_at w AT_SHELL_ACORNS }
 
 abbrev pub face_of : List ℕ → Face
-face_of w = record { front = maybe_at w AT-FACE-FRONT; back = maybe_at w AT-FACE-BACK; loops = list_at w AT-FACE-LOOPS; surface = maybe_at w AT-FACE-SURFACE; sense = sense_of (word w AT-FACE-SENSE) }
+face_of w = record { front = maybe_at w AT_FACE_FRONT; back = maybe_at w AT_FACE_BACK; loops = list_at w AT_FACE_LOOPS; surface = maybe_at w AT_FACE_SURFACE; sense = sense_of (word w AT_FACE_SENSE) }
 
 abbrev pub loop_of : List ℕ → Loop
-loop_of w = record { face = word w AT-LOOP-FACE; fins = list_at w AT-LOOP-FINS }
+loop_of w = record { face = word w AT_LOOP_FACE; fins = list_at w AT_LOOP_FINS }
 
 abbrev pub fin_of : List ℕ → Fin
-fin_of w = record { owner = word w AT-FIN-LOOP; edge = word w AT-FIN-EDGE; sense = sense_of (word w AT-FIN-SENSE); pcurve = flag_at w AT-FIN-PCURVE }
+fin_of w = record { owner = word w AT_FIN_LOOP; edge = word w AT_FIN_EDGE; sense = sense_of (word w AT_FIN_SENSE); pcurve = flag_at w AT_FIN_PCURVE }
 
 abbrev pub edge_of : List ℕ → List Float → Edge
 edge_of w x =
     record {
-      fins = list_at w AT-EDGE-FINS;
-      start = maybe_at w AT-EDGE-START;
-      end = maybe_at w AT-EDGE-END;
-      curve = maybe_at w AT-EDGE-CURVE;
-      tolerance = tolerance_of (word w AT-EDGE-TOLERANCE) (real x FLOAT-EDGE-TOLERANCE);
+      fins = list_at w AT_EDGE_FINS;
+      start = maybe_at w AT_EDGE_START;
+      end = maybe_at w AT_EDGE_END;
+      curve = maybe_at w AT_EDGE_CURVE;
+      tolerance = tolerance_of (word w AT_EDGE_TOLERANCE) (real x FLOAT_EDGE_TOLERANCE);
     }
 
 abbrev pub vertex_of : List ℕ → List Float → Vertex
-vertex_of w x = record { point = point_at x FLOAT-VERTEX-POINT; tolerance = tolerance_of (word w AT-VERTEX-TOLERANCE) (real x FLOAT-VERTEX-TOLERANCE) }
+vertex_of w x = record { point = point_at x FLOAT_VERTEX_POINT; tolerance = tolerance_of (word w AT_VERTEX_TOLERANCE) (real x FLOAT_VERTEX_TOLERANCE) }
 
 -- a line, a plane or other, by the tag
 abbrev pub carrier_of : List ℕ → List Float → Carrier
 carrier_of w x =
-    cond (eqb (word w AT-CARRIER-TAG) 0) (Carriers.Line (record { origin = point_at x FLOAT-CARRIER-ORIGIN; direction = vec_at x FLOAT-CARRIER-DIRECTION }))
-    (cond (eqb (word w AT-CARRIER-TAG) 1) (Carriers.Plane (record { origin = point_at x FLOAT-CARRIER-ORIGIN; normal = vec_at x FLOAT-CARRIER-DIRECTION })) Carriers.Other)
+    cond (eqb (word w AT_CARRIER_TAG) 0) (Carriers.Line (record { origin = point_at x FLOAT_CARRIER_ORIGIN; direction = vec_at x FLOAT_CARRIER_DIRECTION }))
+    (cond (eqb (word w AT_CARRIER_TAG) 1) (Carriers.Plane (record { origin = point_at x FLOAT_CARRIER_ORIGIN; normal = vec_at x FLOAT_CARRIER_DIRECTION })) Carriers.Other)
 
 -- ---- the model
 

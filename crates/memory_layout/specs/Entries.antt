@@ -2,7 +2,7 @@
 -- 7 an edge's fins; and the lookup of an entry. Definitions only.
 use Rattle.std.specs.Prelude.{ℕ, Bool, List, [], ◌∷◌, ltb, length, Float}
 use Rattle.geom_lines_planes.specs.Refuse.{◌unless◌, ◌then◌, answer}
-use Rattle.memory_layout.specs.Names.{BODIES, REGIONS, SHELLS, FACES, LOOPS, EDGES, AT-BODY-REGIONS, AT-REGION-SHELLS, AT-SHELL-FACES, AT-SHELL-WIRES, AT-SHELL-ACORNS, AT-FACE-LOOPS, AT-LOOP-FINS, AT-EDGE-FINS}
+use Rattle.memory_layout.specs.Names.{BODIES, REGIONS, SHELLS, FACES, LOOPS, EDGES, AT_BODY_REGIONS, AT_REGION_SHELLS, AT_SHELL_FACES, AT_SHELL_WIRES, AT_SHELL_ACORNS, AT_FACE_LOOPS, AT_LOOP_FINS, AT_EDGE_FINS}
 use Rattle.memory_layout.specs.declared.entries.Entry.{Entry}
 use Rattle.memory_layout.specs.declared.entries.Entry.TheVariants.{Is, Refused}
 use Rattle.memory_layout.specs.Layout.{word, words_of}
@@ -14,7 +14,7 @@ abbrev pub list_tables : List ℕ
 list_tables = BODIES ∷ REGIONS ∷ SHELLS ∷ SHELLS ∷ SHELLS ∷ FACES ∷ LOOPS ∷ EDGES ∷ []
 
 abbrev pub list_places : List ℕ
-list_places = AT-BODY-REGIONS ∷ AT-REGION-SHELLS ∷ AT-SHELL-FACES ∷ AT-SHELL-WIRES ∷ AT-SHELL-ACORNS ∷ AT-FACE-LOOPS ∷ AT-LOOP-FINS ∷ AT-EDGE-FINS ∷ []
+list_places = AT_BODY_REGIONS ∷ AT_REGION_SHELLS ∷ AT_SHELL_FACES ∷ AT_SHELL_WIRES ∷ AT_SHELL_ACORNS ∷ AT_FACE_LOOPS ∷ AT_LOOP_FINS ∷ AT_EDGE_FINS ∷ []
 
 abbrev pub list_limits : List ℕ
 list_limits = 16 ∷ 16 ∷ 512 ∷ 256 ∷ 64 ∷ 16 ∷ 1024 ∷ 8 ∷ []

@@ -33,142 +33,142 @@ abbrev pub SURFACES : ℕ
 SURFACES = 9
 
 -- the lists that records have
-abbrev pub BODY-REGIONS : ℕ
-BODY-REGIONS = 0
+abbrev pub BODY_REGIONS : ℕ
+BODY_REGIONS = 0
 
-abbrev pub REGION-SHELLS : ℕ
-REGION-SHELLS = 1
+abbrev pub REGION_SHELLS : ℕ
+REGION_SHELLS = 1
 
-abbrev pub SHELL-FACES : ℕ
-SHELL-FACES = 2
+abbrev pub SHELL_FACES : ℕ
+SHELL_FACES = 2
 
-abbrev pub SHELL-WIRES : ℕ
-SHELL-WIRES = 3
+abbrev pub SHELL_WIRES : ℕ
+SHELL_WIRES = 3
 
-abbrev pub SHELL-ACORNS : ℕ
-SHELL-ACORNS = 4
+abbrev pub SHELL_ACORNS : ℕ
+SHELL_ACORNS = 4
 
-abbrev pub FACE-LOOPS : ℕ
-FACE-LOOPS = 5
+abbrev pub FACE_LOOPS : ℕ
+FACE_LOOPS = 5
 
-abbrev pub LOOP-FINS : ℕ
-LOOP-FINS = 6
+abbrev pub LOOP_FINS : ℕ
+LOOP_FINS = 6
 
-abbrev pub EDGE-FINS : ℕ
-EDGE-FINS = 7
+abbrev pub EDGE_FINS : ℕ
+EDGE_FINS = 7
 
 -- where a field stands among the words of its record; of an optional id the tag, and then the id
 
 -- of a body
-abbrev pub AT-BODY-KIND : ℕ
-AT-BODY-KIND = 0
+abbrev pub AT_BODY_KIND : ℕ
+AT_BODY_KIND = 0
 
-abbrev pub AT-BODY-OFFICE : ℕ
-AT-BODY-OFFICE = 1
+abbrev pub AT_BODY_OFFICE : ℕ
+AT_BODY_OFFICE = 1
 
-abbrev pub AT-BODY-REGIONS : ℕ
-AT-BODY-REGIONS = 2
+abbrev pub AT_BODY_REGIONS : ℕ
+AT_BODY_REGIONS = 2
 
 -- of a region
-abbrev pub AT-REGION-BODY : ℕ
-AT-REGION-BODY = 0
+abbrev pub AT_REGION_BODY : ℕ
+AT_REGION_BODY = 0
 
-abbrev pub AT-REGION-SOLID : ℕ
-AT-REGION-SOLID = 1
+abbrev pub AT_REGION_SOLID : ℕ
+AT_REGION_SOLID = 1
 
-abbrev pub AT-REGION-SHELLS : ℕ
-AT-REGION-SHELLS = 2
+abbrev pub AT_REGION_SHELLS : ℕ
+AT_REGION_SHELLS = 2
 
 -- of a shell
-abbrev pub AT-SHELL-REGION : ℕ
-AT-SHELL-REGION = 0
+abbrev pub AT_SHELL_REGION : ℕ
+AT_SHELL_REGION = 0
 
-abbrev pub AT-SHELL-FACES : ℕ
-AT-SHELL-FACES = 1
+abbrev pub AT_SHELL_FACES : ℕ
+AT_SHELL_FACES = 1
 
-abbrev pub AT-SHELL-WIRES : ℕ
-AT-SHELL-WIRES = 514
+abbrev pub AT_SHELL_WIRES : ℕ
+AT_SHELL_WIRES = 514
 
-abbrev pub AT-SHELL-ACORNS : ℕ
-AT-SHELL-ACORNS = 771
+abbrev pub AT_SHELL_ACORNS : ℕ
+AT_SHELL_ACORNS = 771
 
 -- of a face
-abbrev pub AT-FACE-FRONT : ℕ
-AT-FACE-FRONT = 0
+abbrev pub AT_FACE_FRONT : ℕ
+AT_FACE_FRONT = 0
 
-abbrev pub AT-FACE-FRONT-ID : ℕ
-AT-FACE-FRONT-ID = 1
+abbrev pub AT_FACE_FRONT_ID : ℕ
+AT_FACE_FRONT_ID = 1
 
-abbrev pub AT-FACE-BACK : ℕ
-AT-FACE-BACK = 2
+abbrev pub AT_FACE_BACK : ℕ
+AT_FACE_BACK = 2
 
-abbrev pub AT-FACE-BACK-ID : ℕ
-AT-FACE-BACK-ID = 3
+abbrev pub AT_FACE_BACK_ID : ℕ
+AT_FACE_BACK_ID = 3
 
-abbrev pub AT-FACE-SURFACE : ℕ
-AT-FACE-SURFACE = 4
+abbrev pub AT_FACE_SURFACE : ℕ
+AT_FACE_SURFACE = 4
 
-abbrev pub AT-FACE-SURFACE-ID : ℕ
-AT-FACE-SURFACE-ID = 5
+abbrev pub AT_FACE_SURFACE_ID : ℕ
+AT_FACE_SURFACE_ID = 5
 
-abbrev pub AT-FACE-SENSE : ℕ
-AT-FACE-SENSE = 6
+abbrev pub AT_FACE_SENSE : ℕ
+AT_FACE_SENSE = 6
 
-abbrev pub AT-FACE-LOOPS : ℕ
-AT-FACE-LOOPS = 7
+abbrev pub AT_FACE_LOOPS : ℕ
+AT_FACE_LOOPS = 7
 
 -- of a loop
-abbrev pub AT-LOOP-FACE : ℕ
-AT-LOOP-FACE = 0
+abbrev pub AT_LOOP_FACE : ℕ
+AT_LOOP_FACE = 0
 
-abbrev pub AT-LOOP-FINS : ℕ
-AT-LOOP-FINS = 1
+abbrev pub AT_LOOP_FINS : ℕ
+AT_LOOP_FINS = 1
 
 -- of a fin
-abbrev pub AT-FIN-LOOP : ℕ
-AT-FIN-LOOP = 0
+abbrev pub AT_FIN_LOOP : ℕ
+AT_FIN_LOOP = 0
 
-abbrev pub AT-FIN-EDGE : ℕ
-AT-FIN-EDGE = 1
+abbrev pub AT_FIN_EDGE : ℕ
+AT_FIN_EDGE = 1
 
-abbrev pub AT-FIN-SENSE : ℕ
-AT-FIN-SENSE = 2
+abbrev pub AT_FIN_SENSE : ℕ
+AT_FIN_SENSE = 2
 
-abbrev pub AT-FIN-PCURVE : ℕ
-AT-FIN-PCURVE = 3
+abbrev pub AT_FIN_PCURVE : ℕ
+AT_FIN_PCURVE = 3
 
 -- of an edge
-abbrev pub AT-EDGE-START : ℕ
-AT-EDGE-START = 0
+abbrev pub AT_EDGE_START : ℕ
+AT_EDGE_START = 0
 
-abbrev pub AT-EDGE-START-ID : ℕ
-AT-EDGE-START-ID = 1
+abbrev pub AT_EDGE_START_ID : ℕ
+AT_EDGE_START_ID = 1
 
-abbrev pub AT-EDGE-END : ℕ
-AT-EDGE-END = 2
+abbrev pub AT_EDGE_END : ℕ
+AT_EDGE_END = 2
 
-abbrev pub AT-EDGE-END-ID : ℕ
-AT-EDGE-END-ID = 3
+abbrev pub AT_EDGE_END_ID : ℕ
+AT_EDGE_END_ID = 3
 
-abbrev pub AT-EDGE-CURVE : ℕ
-AT-EDGE-CURVE = 4
+abbrev pub AT_EDGE_CURVE : ℕ
+AT_EDGE_CURVE = 4
 
-abbrev pub AT-EDGE-CURVE-ID : ℕ
-AT-EDGE-CURVE-ID = 5
+abbrev pub AT_EDGE_CURVE_ID : ℕ
+AT_EDGE_CURVE_ID = 5
 
-abbrev pub AT-EDGE-TOLERANCE : ℕ
-AT-EDGE-TOLERANCE = 6
+abbrev pub AT_EDGE_TOLERANCE : ℕ
+AT_EDGE_TOLERANCE = 6
 
-abbrev pub AT-EDGE-FINS : ℕ
-AT-EDGE-FINS = 7
+abbrev pub AT_EDGE_FINS : ℕ
+AT_EDGE_FINS = 7
 
 -- of a vertex
-abbrev pub AT-VERTEX-TOLERANCE : ℕ
-AT-VERTEX-TOLERANCE = 0
+abbrev pub AT_VERTEX_TOLERANCE : ℕ
+AT_VERTEX_TOLERANCE = 0
 
 -- of a carrier
-abbrev pub AT-CARRIER-TAG : ℕ
-AT-CARRIER-TAG = 0
+abbrev pub AT_CARRIER_TAG : ℕ
+AT_CARRIER_TAG = 0
 
 -- where the version of the drawing practice stands among the words: behind the ten used counts (W-211)
 abbrev pub VERSION : ℕ
@@ -179,17 +179,17 @@ abbrev pub PRECISION : ℕ
 PRECISION = 0
 
 -- and a field among the floats of its record
-abbrev pub FLOAT-EDGE-TOLERANCE : ℕ
-FLOAT-EDGE-TOLERANCE = 0
+abbrev pub FLOAT_EDGE_TOLERANCE : ℕ
+FLOAT_EDGE_TOLERANCE = 0
 
-abbrev pub FLOAT-VERTEX-POINT : ℕ
-FLOAT-VERTEX-POINT = 0
+abbrev pub FLOAT_VERTEX_POINT : ℕ
+FLOAT_VERTEX_POINT = 0
 
-abbrev pub FLOAT-VERTEX-TOLERANCE : ℕ
-FLOAT-VERTEX-TOLERANCE = 3
+abbrev pub FLOAT_VERTEX_TOLERANCE : ℕ
+FLOAT_VERTEX_TOLERANCE = 3
 
-abbrev pub FLOAT-CARRIER-ORIGIN : ℕ
-FLOAT-CARRIER-ORIGIN = 0
+abbrev pub FLOAT_CARRIER_ORIGIN : ℕ
+FLOAT_CARRIER_ORIGIN = 0
 
-abbrev pub FLOAT-CARRIER-DIRECTION : ℕ
-FLOAT-CARRIER-DIRECTION = 3
+abbrev pub FLOAT_CARRIER_DIRECTION : ℕ
+FLOAT_CARRIER_DIRECTION = 3

@@ -5,7 +5,7 @@ use Rattle.geom_lines_planes.specs.declared.tolerance.Tolerance.TheVariants.{Own
 use Rattle.geom_lines_planes.specs.Refuse.{◌unless◌, ◌then◌}
 use Rattle.meaning.specs.Lists.{all_below, every}
 use Rattle.meaning.specs.Edits.{tolerance_ok, precision_ok}
-use Rattle.memory_layout.specs.Names.{AT-BODY-KIND, AT-BODY-OFFICE, AT-BODY-REGIONS, AT-REGION-SOLID, AT-REGION-SHELLS, AT-SHELL-FACES, AT-SHELL-WIRES, AT-SHELL-ACORNS, AT-FACE-FRONT, AT-FACE-BACK, AT-FACE-SURFACE, AT-FACE-SENSE, AT-FACE-LOOPS, AT-LOOP-FINS, AT-FIN-SENSE, AT-FIN-PCURVE, AT-EDGE-START, AT-EDGE-END, AT-EDGE-CURVE, AT-EDGE-TOLERANCE, AT-EDGE-FINS, AT-VERTEX-TOLERANCE, AT-CARRIER-TAG, VERSION, PRECISION, FLOAT-EDGE-TOLERANCE, FLOAT-VERTEX-TOLERANCE}
+use Rattle.memory_layout.specs.Names.{AT_BODY_KIND, AT_BODY_OFFICE, AT_BODY_REGIONS, AT_REGION_SOLID, AT_REGION_SHELLS, AT_SHELL_FACES, AT_SHELL_WIRES, AT_SHELL_ACORNS, AT_FACE_FRONT, AT_FACE_BACK, AT_FACE_SURFACE, AT_FACE_SENSE, AT_FACE_LOOPS, AT_LOOP_FINS, AT_FIN_SENSE, AT_FIN_PCURVE, AT_EDGE_START, AT_EDGE_END, AT_EDGE_CURVE, AT_EDGE_TOLERANCE, AT_EDGE_FINS, AT_VERTEX_TOLERANCE, AT_CARRIER_TAG, VERSION, PRECISION, FLOAT_EDGE_TOLERANCE, FLOAT_VERTEX_TOLERANCE}
 use Rattle.memory_layout.specs.Layout.{largest_tables, word, real, words_needed, reals_needed, words_of, reals_of}
 
 -- ---- a record's tags are known, and its lists within their limits: 01, "Lists: body 16 regions; region 16 shells; shell 512 faces, 256 wire edges,
@@ -13,35 +13,35 @@ use Rattle.memory_layout.specs.Layout.{largest_tables, word, real, words_needed,
 
 -- W-206, "an office number, 0 or 1"
 abbrev pub body_ok : List ℕ → Bool
-body_ok w = leb (word w AT-BODY-KIND) 4 && leb (word w AT-BODY-OFFICE) 1 && leb (word w AT-BODY-REGIONS) 16
+body_ok w = leb (word w AT_BODY_KIND) 4 && leb (word w AT_BODY_OFFICE) 1 && leb (word w AT_BODY_REGIONS) 16
 
 abbrev pub region_ok : List ℕ → Bool
-region_ok w = leb (word w AT-REGION-SOLID) 1 && leb (word w AT-REGION-SHELLS) 16
+region_ok w = leb (word w AT_REGION_SOLID) 1 && leb (word w AT_REGION_SHELLS) 16
 
 abbrev pub shell_ok : List ℕ → Bool
-shell_ok w = leb (word w AT-SHELL-FACES) 512 && leb (word w AT-SHELL-WIRES) 256 && leb (word w AT-SHELL-ACORNS) 64
+shell_ok w = leb (word w AT_SHELL_FACES) 512 && leb (word w AT_SHELL_WIRES) 256 && leb (word w AT_SHELL_ACORNS) 64
 
 abbrev pub face_ok : List ℕ → Bool
-face_ok w = leb (word w AT-FACE-FRONT) 1 && leb (word w AT-FACE-BACK) 1 && leb (word w AT-FACE-SURFACE) 1 && leb (word w AT-FACE-SENSE) 1 && leb (word w AT-FACE-LOOPS) 16
+face_ok w = leb (word w AT_FACE_FRONT) 1 && leb (word w AT_FACE_BACK) 1 && leb (word w AT_FACE_SURFACE) 1 && leb (word w AT_FACE_SENSE) 1 && leb (word w AT_FACE_LOOPS) 16
 
 abbrev pub loop_ok : List ℕ → Bool
-loop_ok w = leb (word w AT-LOOP-FINS) 1024
+loop_ok w = leb (word w AT_LOOP_FINS) 1024
 
 abbrev pub fin_ok : List ℕ → Bool
-fin_ok w = leb (word w AT-FIN-SENSE) 1 && leb (word w AT-FIN-PCURVE) 1
+fin_ok w = leb (word w AT_FIN_SENSE) 1 && leb (word w AT_FIN_PCURVE) 1
 
 -- an own tolerance is one that an insert would take
 abbrev pub own_ok : ℕ → Float → Bool
 own_ok tag t = eqb tag 0 || tolerance_ok (Own t)
 
 abbrev pub edge_ok : List ℕ → List Float → Bool
-edge_ok w x = leb (word w AT-EDGE-START) 1 && leb (word w AT-EDGE-END) 1 && leb (word w AT-EDGE-CURVE) 1 && leb (word w AT-EDGE-TOLERANCE) 1 && leb (word w AT-EDGE-FINS) 8 && own_ok (word w AT-EDGE-TOLERANCE) (real x FLOAT-EDGE-TOLERANCE)
+edge_ok w x = leb (word w AT_EDGE_START) 1 && leb (word w AT_EDGE_END) 1 && leb (word w AT_EDGE_CURVE) 1 && leb (word w AT_EDGE_TOLERANCE) 1 && leb (word w AT_EDGE_FINS) 8 && own_ok (word w AT_EDGE_TOLERANCE) (real x FLOAT_EDGE_TOLERANCE)
 
 abbrev pub vertex_ok : List ℕ → List Float → Bool
-vertex_ok w x = leb (word w AT-VERTEX-TOLERANCE) 1 && own_ok (word w AT-VERTEX-TOLERANCE) (real x FLOAT-VERTEX-TOLERANCE)
+vertex_ok w x = leb (word w AT_VERTEX_TOLERANCE) 1 && own_ok (word w AT_VERTEX_TOLERANCE) (real x FLOAT_VERTEX_TOLERANCE)
 
 abbrev pub carrier_ok : List ℕ → Bool
-carrier_ok w = leb (word w AT-CARRIER-TAG) 2
+carrier_ok w = leb (word w AT_CARRIER_TAG) 2
 
 -- the version is 1 or 2 (W-211): else it is "an unknown tag"
 abbrev pub version_ok : ℕ → Bool

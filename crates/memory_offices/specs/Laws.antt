@@ -6,7 +6,7 @@ use Rattle.std.proofs.Math.Bool.{true, false}
 use borrow.Author.Tests.{le-leb, lt-leb, lt-ltb, le-ltb, eq-eqb, ne_eqb}
 use Rattle.geom_lines_planes.specs.Refuse.{◌unless◌, ◌then◌, answer}
 use Rattle.meaning.specs.Offices.{office_number, body_for}
-use Rattle.memory_layout.specs.Names.{BODIES, AT-BODY-OFFICE}
+use Rattle.memory_layout.specs.Names.{BODIES, AT_BODY_OFFICE}
 use Rattle.memory_layout.specs.Layout.{word, base, word_at, words_of}
 use Rattle.memory_layout.specs.Decode.{office_of, decode}
 use Rattle.memory_layout.specs.Readable.{readable, tag_number}
@@ -25,7 +25,7 @@ unfolding base
 body-place room b = refl
 
 -- the word of a body's office, among all words
-pub office-word : (room w : List ℕ) (b : ℕ) → word (words_of room w BODIES b) AT-BODY-OFFICE ≡ word w (word_at room BODIES b + 1)
+pub office-word : (room w : List ℕ) (b : ℕ) → word (words_of room w BODIES b) AT_BODY_OFFICE ≡ word w (word_at room BODIES b + 1)
 unfolding words_of
 office-word room w b = get_or-take 19 (drop (word_at room BODIES b) w) 1 0 (lit≤ tt) ∙ get_or-drop (word_at room BODIES b) w 1 0
 

@@ -1,6 +1,6 @@
 // The records, each made of its own words and floats (entity.rs).
 ghost use Rattle.std.specs.Prelude.{◌≡◌, length};
-ghost use Rattle.memory_layout.specs.Names.{AT-BODY-REGIONS, AT-REGION-SHELLS, AT-SHELL-FACES, AT-SHELL-WIRES, AT-SHELL-ACORNS, AT-FACE-LOOPS, AT-LOOP-FINS, AT-EDGE-FINS};
+ghost use Rattle.memory_layout.specs.Names.{AT_BODY_REGIONS, AT_REGION_SHELLS, AT_SHELL_FACES, AT_SHELL_WIRES, AT_SHELL_ACORNS, AT_FACE_LOOPS, AT_LOOP_FINS, AT_EDGE_FINS};
 ghost use Rattle.memory_layout.specs.Decode.{body_of, region_of, shell_of, face_of, loop_of, fin_of, edge_of, vertex_of};
 ghost use Rattle.memory_layout.specs.Fit.{Held};
 ghost use Rattle.memory_records.specs.Seen.{seen_body, seen_region, seen_shell, seen_face, seen_loop, seen_fin, seen_edge, seen_vertex};
@@ -19,7 +19,7 @@ use memory_records::records::{
 };
 
 pub fn body_of(w: &[u32]) -> Body
-    requires { Held w.now AT-BODY-REGIONS }
+    requires { Held w.now AT_BODY_REGIONS }
     ensures { result ≡ seen_body (body_of w.now) }
 {
     Body {
@@ -29,7 +29,7 @@ pub fn body_of(w: &[u32]) -> Body
 }
 
 pub fn region_of(w: &[u32]) -> Region
-    requires { Held w.now AT-REGION-SHELLS }
+    requires { Held w.now AT_REGION_SHELLS }
     ensures { result ≡ seen_region (region_of w.now) }
 {
     Region {
@@ -40,9 +40,9 @@ pub fn region_of(w: &[u32]) -> Region
 }
 
 pub fn shell_of(w: &[u32]) -> Shell
-    requires held { Held w.now AT-SHELL-FACES }
-    requires held_2 { Held w.now AT-SHELL-WIRES }
-    requires held_3 { Held w.now AT-SHELL-ACORNS }
+    requires held { Held w.now AT_SHELL_FACES }
+    requires held_2 { Held w.now AT_SHELL_WIRES }
+    requires held_3 { Held w.now AT_SHELL_ACORNS }
     ensures { result ≡ seen_shell (shell_of w.now) }
 {
     Shell {
@@ -54,7 +54,7 @@ pub fn shell_of(w: &[u32]) -> Shell
 }
 
 pub fn face_of(w: &[u32]) -> Face
-    requires { Held w.now AT-FACE-LOOPS }
+    requires { Held w.now AT_FACE_LOOPS }
     ensures { result ≡ seen_face (face_of w.now) }
 {
     Face {
@@ -67,7 +67,7 @@ pub fn face_of(w: &[u32]) -> Face
 }
 
 pub fn loop_of(w: &[u32]) -> Loop
-    requires { Held w.now AT-LOOP-FINS }
+    requires { Held w.now AT_LOOP_FINS }
     ensures { result ≡ seen_loop (loop_of w.now) }
 {
     Loop {
@@ -89,7 +89,7 @@ pub fn fin_of(w: &[u32]) -> Fin
 }
 
 pub fn edge_of(w: &[u32], x: &[f64]) -> Edge
-    requires held { Held w.now AT-EDGE-FINS }
+    requires held { Held w.now AT_EDGE_FINS }
     requires x_len { length x.now ≡ 1 }
     ensures { result ≡ seen_edge (edge_of w.now x.now) }
 {

@@ -3,7 +3,7 @@
 ghost use Rattle.std.specs.Prelude.{◌≡◌, ◌+◌, ◌≤◌, ◌<◌, length};
 ghost use Rattle.geom_lines_planes.specs.Geometry.{effective};
 ghost use Rattle.memory_layout.specs.Layout.{word, real};
-ghost use Rattle.memory_layout.specs.Names.{VERSION, PRECISION, FLOAT-CARRIER-ORIGIN, FLOAT-CARRIER-DIRECTION};
+ghost use Rattle.memory_layout.specs.Names.{VERSION, PRECISION, FLOAT_CARRIER_ORIGIN, FLOAT_CARRIER_DIRECTION};
 ghost use Rattle.memory_layout.specs.Decode.{maybe_at, sense_of, kind_of, version_of, tolerance_of, point_at, vec_at, carrier_of};
 ghost use Rattle.memory_records.specs.Seen.{seen_ref, seen_sense, seen_kind};
 
@@ -158,7 +158,7 @@ pub fn in_effect(words: &[u32], reals: &[f64], local: Tolerance) -> f64
 // The first three floats of a carrier, its origin, or of a vertex, its point.
 pub fn point_of(x: &[f64]) -> Point3
     requires { 3 ≤ length x.now }
-    ensures { result ≡ point_at x.now FLOAT-CARRIER-ORIGIN }
+    ensures { result ≡ point_at x.now FLOAT_CARRIER_ORIGIN }
 {
     Point3 {
         x: x[0],
@@ -170,7 +170,7 @@ pub fn point_of(x: &[f64]) -> Point3
 // The last three of a carrier, its direction or normal.
 fn vec_of(x: &[f64]) -> Vec3
     requires { 6 ≤ length x.now }
-    ensures { result ≡ vec_at x.now FLOAT-CARRIER-DIRECTION }
+    ensures { result ≡ vec_at x.now FLOAT_CARRIER_DIRECTION }
 {
     Vec3 {
         x: x[3],

@@ -4,14 +4,14 @@ use Rattle.std.specs.Prelude.{ℕ, ◌-◌, cond, List, [], ◌∷◌, eqb, leb,
 use Rattle.geom_lines_planes.specs.Refuse.{◌unless◌}
 use Rattle.meaning.specs.Lists.{run, count, joined}
 use Rattle.meaning.specs.Formed.{bit}
-use Rattle.memory_layout.specs.Names.{REGIONS, SHELLS, FACES, LOOPS, FINS, EDGES, BODY-REGIONS, REGION-SHELLS, SHELL-FACES, FACE-LOOPS, LOOP-FINS, AT-FIN-EDGE}
+use Rattle.memory_layout.specs.Names.{REGIONS, SHELLS, FACES, LOOPS, FINS, EDGES, BODY_REGIONS, REGION_SHELLS, SHELL_FACES, FACE_LOOPS, LOOP_FINS, AT_FIN_EDGE}
 use Rattle.memory_layout.specs.Layout.{word, words_of}
 use Rattle.memory_layout.specs.Entries.{list_of}
 use Rattle.split_foreign.specs.Status.{greater, greatest, entry}
 
 -- by table: the list of its records that names records of the next
 abbrev pub followed : List ℕ
-followed = BODY-REGIONS ∷ REGION-SHELLS ∷ SHELL-FACES ∷ FACE-LOOPS ∷ LOOP-FINS ∷ []
+followed = BODY_REGIONS ∷ REGION_SHELLS ∷ SHELL_FACES ∷ FACE_LOOPS ∷ LOOP_FINS ∷ []
 
 -- ---- how often an id is listed, up to 2; an id that has no place among the counts is passed over
 
@@ -40,7 +40,7 @@ module _ (room w : List ℕ) where
 
   -- what record i of table k leads to, where its entries lead to f; a fin leads to its edge
   unfoldable pub follows : ℕ → (ℕ → ℕ) → ℕ → ℕ
-  follows k f i = cond (eqb k FINS) (2 unless ltb (word (words_of room w FINS i) AT-FIN-EDGE) (word w EDGES)) (greatest f (list_of room w (word followed k) i))
+  follows k f i = cond (eqb k FINS) (2 unless ltb (word (words_of room w FINS i) AT_FIN_EDGE) (word w EDGES)) (greatest f (list_of room w (word followed k) i))
 
   -- with its own status, o
   unfoldable pub status : ℕ → (ℕ → ℕ) → (ℕ → ℕ) → ℕ → ℕ

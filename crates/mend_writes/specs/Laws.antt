@@ -5,7 +5,7 @@ use Rattle.meaning.specs.Lists.{all_below}
 use Rattle.meaning_list_laws.specs.Tests.{all_below-at}
 use Rattle.meaning_mends.specs.Mends.{Child, a_region, a_shell, a_loop, a_fin, child_table, Change, renamed, enlisted}
 use Rattle.meaning_mends.specs.Words.{PARENT, change_words, changes_words}
-use Rattle.memory_layout.specs.Names.{EDGES, AT-EDGE-FINS}
+use Rattle.memory_layout.specs.Names.{EDGES, AT_EDGE_FINS}
 use Rattle.memory_layout.specs.Layout.{word_strides, word, word_at, words_needed}
 use Rattle.memory_layout.specs.Laws.{record-inside}
 use Rattle.mend_writes.specs.Made.{made_word, made_words}
@@ -19,7 +19,7 @@ fin_put w at place fin = set (set w (at + 1 + place) fin) at (place + 1)
 unfoldable pub entry_made : List ℕ → List ℕ → List ℕ → List ℕ
 entry_made room w e =
     let at = word_at room (word e 0) (word e 1) in
-    cond (eqb (word e 2) PARENT) (set w at (word e 5)) (fin_put w (at + AT-EDGE-FINS) (word e 3) (word e 5))
+    cond (eqb (word e 2) PARENT) (set w at (word e 5)) (fin_put w (at + AT_EDGE_FINS) (word e 3) (word e 5))
 
 -- and behind the first n entries of a list
 unfoldable pub entries_made : List ℕ → List ℕ → List ℕ → ℕ → List ℕ
@@ -41,7 +41,7 @@ made-long room w e = by (eqb (word e 2) PARENT)
     at : ℕ
     at = word_at room (word e 0) (word e 1)
 
-    by : (b : Bool) → length (cond b (set w at (word e 5)) (fin_put w (at + AT-EDGE-FINS) (word e 3) (word e 5))) ≡ length w
+    by : (b : Bool) → length (cond b (set w at (word e 5)) (fin_put w (at + AT_EDGE_FINS) (word e 3) (word e 5))) ≡ length w
     by true = length-set w at (word e 5)
     by false = simp length-set
 
@@ -127,7 +127,7 @@ parent-inside room w e h s =
     let b = record-inside 11 word_strides room (word e 0) (word e 1) s.table s.slot in
     omega (arith, stride-least (word e 0) s.table)
 
-pub fins-inside : (room w e : List ℕ) → words_needed room ≤ length w → Stored room e → (word e 2 ≡ PARENT → ⊥) → word_at room (word e 0) (word e 1) + AT-EDGE-FINS + 8 < length w
+pub fins-inside : (room w e : List ℕ) → words_needed room ≤ length w → Stored room e → (word e 2 ≡ PARENT → ⊥) → word_at room (word e 0) (word e 1) + AT_EDGE_FINS + 8 < length w
 fins-inside room w e h s f =
     let b = record-inside 11 word_strides room (word e 0) (word e 1) s.table s.slot in
     let d : word word_strides (word e 0) ≡ 16 = ap (word word_strides) (s.list f).0 in

@@ -5,7 +5,7 @@ use Rattle.geom_lines_planes.specs.Refuse.{answer}
 use Rattle.meaning.specs.Model.{Model}
 use Rattle.meaning.specs.Edits.{appended}
 use Rattle.meaning.specs.Offices.{body_for}
-use Rattle.memory_layout.specs.Names.{BODY-REGIONS}
+use Rattle.memory_layout.specs.Names.{BODY_REGIONS}
 use Rattle.memory_layout.specs.Layout.{word}
 use Rattle.memory_layout.specs.Decode.{decode}
 use Rattle.memory_layout.specs.Entries.{list_of, entry_refusal}
@@ -37,7 +37,7 @@ entity_for m o (Entities.Vertex i) = Entities.Vertex i
 
 -- the record i of list j
 abbrev pub record_for : Model → ℕ → ℕ → ℕ → ℕ
-record_for m o j i = cond (eqb j BODY-REGIONS) (body_for m o i) i
+record_for m o j i = cond (eqb j BODY_REGIONS) (body_for m o i) i
 
 module _ (room w : List ℕ) (x : List Float) (o : ℕ) where
   unfoldable pub office_body_number : ℕ → ℕ

@@ -3,7 +3,7 @@ use Rattle.std.specs.Prelude.{ℕ, Bool, cond, ◌&&◌, List, eqb, ℤ, length}
 use Rattle.meaning.specs.Model.{Model}
 use Rattle.meaning.specs.Refuse.{first_of}
 use Rattle.meaning_slabs.specs.Slabs.{corner_at, spot, strip}
-use Rattle.memory_layout.specs.Names.{FACE-LOOPS}
+use Rattle.memory_layout.specs.Names.{FACE_LOOPS}
 use Rattle.memory_layout.specs.Entries.{list_of}
 use Rattle.inquire_fin_starts.specs.Starts.{start_number}
 use Rattle.inquire_sides.specs.Sides.{rim_of, face_whole}
@@ -21,4 +21,4 @@ step_at m a i j = strip (spot a (corner_at m i)) (spot a (corner_at m j))
 
 -- a face with its loop, fins and edges, one loop, and all starts there
 unfoldable pub measurable : List ℕ → List ℕ → ℕ → Bool
-measurable room w f = face_whole room w f && eqb (length (list_of room w FACE-LOOPS f)) 1 && eqb (first_of (start_number room w) (rim_of room w f)) 0
+measurable room w f = face_whole room w f && eqb (length (list_of room w FACE_LOOPS f)) 1 && eqb (first_of (start_number room w) (rim_of room w f)) 0

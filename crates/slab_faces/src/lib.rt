@@ -6,7 +6,7 @@ ghost use Rattle.geom_carriers.specs.Queries.{the_plane};
 ghost use Rattle.meaning.specs.Lists.{all, the};
 ghost use Rattle.meaning.specs.Refuse.{first_of};
 ghost use Rattle.meaning_slabs.specs.Slabs.{normal_of, on, corner_at, level, level_face, face_axis};
-ghost use Rattle.memory_layout.specs.Names.{FACES, FACE-LOOPS};
+ghost use Rattle.memory_layout.specs.Names.{FACES, FACE_LOOPS};
 ghost use Rattle.memory_layout.specs.Layout.{word};
 ghost use Rattle.memory_layout.specs.Decode.{maybe_at, decode};
 ghost use Rattle.memory_layout.specs.Entries.{list_of};
@@ -128,7 +128,7 @@ fn level(room: &[usize; 10], words: &[u32], reals: &[f64], axis: u32, fins: &[u3
 fn level_face(room: &[usize; 10], words: &[u32], reals: &[f64], f: usize) -> bool
     requires fit { Fit room.now words.now reals.now }
     requires f_value { face_whole room.now words.now f ≡ true }
-    requires f_len { length (list_of room.now words.now FACE-LOOPS f) ≡ 1 }
+    requires f_len { length (list_of room.now words.now FACE_LOOPS f) ≡ 1 }
     ensures { result ≡ level_face (decode room.now words.now reals.now) f }
 {
     let fins = rim(room, words, f);
@@ -142,7 +142,7 @@ fn level_face(room: &[usize; 10], words: &[u32], reals: &[f64], f: usize) -> boo
 fn rim_tested(room: &[usize; 10], words: &[u32], reals: &[f64], rule: u32, f: u32) -> u64
     requires fit { Fit room.now words.now reals.now }
     requires f_value { face_whole room.now words.now f ≡ true }
-    requires f_len { length (list_of room.now words.now FACE-LOOPS f) ≡ 1 }
+    requires f_len { length (list_of room.now words.now FACE_LOOPS f) ≡ 1 }
     ensures { result ≡ rim_tested (decode room.now words.now reals.now) rule f }
 {
     if rule == ENDS {

@@ -5,7 +5,7 @@ use Rattle.geom_carriers.specs.Queries.{line_refusal}
 use Rattle.meaning.specs.Model.{Model, has, curve}
 use Rattle.meaning.specs.Refuse.{first_refusal}
 use Rattle.meaning.specs.Split.{test2, test4, test5, test6}
-use Rattle.memory_layout.specs.Names.{AT-EDGE-START, AT-EDGE-START-ID, AT-EDGE-END, AT-EDGE-END-ID, AT-EDGE-CURVE, AT-EDGE-CURVE-ID}
+use Rattle.memory_layout.specs.Names.{AT_EDGE_START, AT_EDGE_START_ID, AT_EDGE_END, AT_EDGE_END_ID, AT_EDGE_CURVE, AT_EDGE_CURVE_ID}
 use Rattle.memory_layout.specs.Layout.{word}
 use Rattle.memory_layout.specs.Decode.{flag_at}
 
@@ -16,8 +16,8 @@ ends_refusal m e = first_refusal (test2 m e ∷ test4 m e ∷ test5 m e ∷ test
 -- tests 4 to 6, of the edge's words
 unfoldable pub carrier_refusal : Model → List ℕ → ℕ
 carrier_refusal m s =
-    7 unless flag_at s AT-EDGE-START && flag_at s AT-EDGE-END
-    then 1 unless flag_at s AT-EDGE-CURVE
-    then line_refusal (curve m (word s AT-EDGE-CURVE-ID))
-    then 2 unless has m.vertices (word s AT-EDGE-START-ID)
-    then 2 unless has m.vertices (word s AT-EDGE-END-ID)
+    7 unless flag_at s AT_EDGE_START && flag_at s AT_EDGE_END
+    then 1 unless flag_at s AT_EDGE_CURVE
+    then line_refusal (curve m (word s AT_EDGE_CURVE_ID))
+    then 2 unless has m.vertices (word s AT_EDGE_START_ID)
+    then 2 unless has m.vertices (word s AT_EDGE_END_ID)

@@ -3,7 +3,7 @@
 use Rattle.std.specs.Prelude.{ℕ, List, Float}
 use Rattle.geom_lines_planes.specs.Refuse.{answer}
 use Rattle.meaning.specs.Split.{split_point}
-use Rattle.memory_layout.specs.Names.{EDGES, VERTICES, FLOAT-EDGE-TOLERANCE}
+use Rattle.memory_layout.specs.Names.{EDGES, VERTICES, FLOAT_EDGE_TOLERANCE}
 use Rattle.memory_layout.specs.Layout.{word, real, reals_of}
 use Rattle.memory_layout.specs.Decode.{decode}
 use Rattle.memory_writes.specs.Put.{unless_refused}
@@ -15,7 +15,7 @@ use Rattle.station_answers.specs.declared.Split.TheVariants.{Is, Refused}
 
 -- all floats: the edge's own tolerance for the new edge and the new vertex, "lo + (hi - lo)·fraction" on its line for the point
 unfoldable pub reals_split : List ℕ → List ℕ → List Float → ℕ → Float → List Float
-reals_split room w x e t = floats_put room (word w EDGES) (word w VERTICES) (split_point (decode room w x) e t) (real (reals_of room x EDGES e) FLOAT-EDGE-TOLERANCE) x
+reals_split room w x e t = floats_put room (word w EDGES) (word w VERTICES) (split_point (decode room w x) e t) (real (reals_of room x EDGES e) FLOAT_EDGE_TOLERANCE) x
 
 -- ---- the split, whoever asks: 9, the thirteen tests, then the writing
 

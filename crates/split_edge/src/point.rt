@@ -1,7 +1,7 @@
 // The new vertex's point, and the floats of the new records.
 ghost use Rattle.std.specs.Prelude.{◌≡◌, ◌<◌};
 ghost use Rattle.meaning.specs.Split.{split_point};
-ghost use Rattle.memory_layout.specs.Names.{EDGES, FLOAT-EDGE-TOLERANCE};
+ghost use Rattle.memory_layout.specs.Names.{EDGES, FLOAT_EDGE_TOLERANCE};
 ghost use Rattle.memory_layout.specs.Layout.{word, real, reals_of};
 ghost use Rattle.memory_layout.specs.Decode.{decode};
 ghost use Rattle.memory_layout.specs.Fit.{Fit};
@@ -37,7 +37,7 @@ fn split_point(
 fn own_float(room: &[usize; 10], words: &[u32], reals: &[f64], edge: usize) -> f64
     requires fit { Fit room.now words.now reals.now }
     requires edge_bound { edge < word words.now EDGES }
-    ensures { result ≡ real (reals_of room.now reals.now EDGES edge) FLOAT-EDGE-TOLERANCE }
+    ensures { result ≡ real (reals_of room.now reals.now EDGES edge) FLOAT_EDGE_TOLERANCE }
 {
     let x = reals_of(room, reals, EDGES, edge);
     x[FLOAT_EDGE_TOLERANCE]

@@ -4,7 +4,7 @@ use Rattle.std.proofs.Math.Path.{refl}
 use Rattle.std.proofs.Common.{◌∙◌}
 use Rattle.meaning.specs.Model.{Model, Table}
 use Rattle.meaning.specs.Split.{split_refusal, after_split, where_accepted, model_after}
-use Rattle.memory_layout.specs.Names.{SHELLS, LOOPS, EDGES, EDGE-FINS, AT-SHELL-WIRES, AT-LOOP-FINS, AT-EDGE-FINS}
+use Rattle.memory_layout.specs.Names.{SHELLS, LOOPS, EDGES, EDGE_FINS, AT_SHELL_WIRES, AT_LOOP_FINS, AT_EDGE_FINS}
 use Rattle.memory_layout.specs.Layout.{word, words_of, reals_of}
 use Rattle.memory_layout.specs.Decode.{decode}
 use Rattle.memory_layout.specs.Readable.{readable}
@@ -26,9 +26,9 @@ pub record HoldsModel (room w' : List ℕ) (x' : List Float) (m : Model) : Type 
 
 -- behind the split, the words w' hold what w held at every place of a list behind its last entry: the loops', the shells' wire edges, and those of the new edge, which has n fins
 pub record PlacesStay (room w w' : List ℕ) (n : ℕ) : Type 0 where
-  pub loops : (i q : ℕ) → i < word w LOOPS → AT-LOOP-FINS + word (words_of room w' LOOPS i) AT-LOOP-FINS < q → word (words_of room w' LOOPS i) q ≡ word (words_of room w LOOPS i) q
-  pub wires : (i q : ℕ) → i < word w SHELLS → AT-SHELL-WIRES + word (words_of room w' SHELLS i) AT-SHELL-WIRES < q → word (words_of room w' SHELLS i) q ≡ word (words_of room w SHELLS i) q
-  pub new-edge : (q : ℕ) → AT-EDGE-FINS + n < q → word (words_of room w' EDGES (word w EDGES)) q ≡ word (words_of room w EDGES (word w EDGES)) q
+  pub loops : (i q : ℕ) → i < word w LOOPS → AT_LOOP_FINS + word (words_of room w' LOOPS i) AT_LOOP_FINS < q → word (words_of room w' LOOPS i) q ≡ word (words_of room w LOOPS i) q
+  pub wires : (i q : ℕ) → i < word w SHELLS → AT_SHELL_WIRES + word (words_of room w' SHELLS i) AT_SHELL_WIRES < q → word (words_of room w' SHELLS i) q ≡ word (words_of room w SHELLS i) q
+  pub new-edge : (q : ℕ) → AT_EDGE_FINS + n < q → word (words_of room w' EDGES (word w EDGES)) q ≡ word (words_of room w EDGES (word w EDGES)) q
 
 same-table : {A : Type 0} (t : Table A) → SameTable t t
 same-table t = record { used = refl; slots = λ i h. refl }
@@ -65,7 +65,7 @@ module _ (room w : List ℕ) (x : List Float) (e : ℕ) (t : Float) where
   unused-slots-stay z = let a = accepted room w x e t z in rw z (λ k i h u g. (slot-words room w x e t a k i h u g, slot-floats room w x e t a k i h u g))
 
   -- and so do places of lists
-  pub unused-places-stay : split_number room w x e t ≡ 0 → PlacesStay room w (split_words room w x e t) (length (list_of room w EDGE-FINS e))
+  pub unused-places-stay : split_number room w x e t ≡ 0 → PlacesStay room w (split_words room w x e t) (length (list_of room w EDGE_FINS e))
   unfolding split_words
   unused-places-stay z =
       let a = accepted room w x e t z in

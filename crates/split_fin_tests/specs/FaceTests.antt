@@ -7,7 +7,7 @@ use Rattle.geom_carriers.specs.Queries.{plane_refusal, the_plane}
 use Rattle.geom_signs.specs.Signs.{off_plane_s}
 use Rattle.meaning.specs.Model.{surface}
 use Rattle.meaning.specs.Split.{within}
-use Rattle.memory_layout.specs.Names.{FACES, AT-FACE-SURFACE, AT-FACE-SURFACE-ID}
+use Rattle.memory_layout.specs.Names.{FACES, AT_FACE_SURFACE, AT_FACE_SURFACE_ID}
 use Rattle.memory_layout.specs.Layout.{word, words_of}
 use Rattle.memory_layout.specs.Decode.{flag_at, decode}
 use Rattle.split_fin_tests.specs.declared.faces.Cut.{Cut}
@@ -28,5 +28,5 @@ module _ (room w : List ℕ) (x : List Float) where
   unfoldable pub face_test : Cut → ℕ → ℕ
   face_test c f =
       2 unless ltb f (word w FACES)
-      then 1 unless flag_at (words_of room w FACES f) AT-FACE-SURFACE
-      then plane_test (surface (decode room w x) (word (words_of room w FACES f) AT-FACE-SURFACE-ID)) c
+      then 1 unless flag_at (words_of room w FACES f) AT_FACE_SURFACE
+      then plane_test (surface (decode room w x) (word (words_of room w FACES f) AT_FACE_SURFACE_ID)) c

@@ -6,7 +6,7 @@ use Rattle.meaning.specs.Lists.{member, count}
 use Rattle.meaning.specs.Model.{Model, edge}
 use Rattle.meaning.specs.Refuse.{◌if◌}
 use Rattle.meaning.specs.Split.{carrier, lo, hi, parameter, split_point}
-use Rattle.memory_layout.specs.Names.{LOOPS, FINS, LOOP-FINS, AT-LOOP-FACE, AT-FIN-LOOP, AT-FIN-EDGE}
+use Rattle.memory_layout.specs.Names.{LOOPS, FINS, LOOP_FINS, AT_LOOP_FACE, AT_FIN_LOOP, AT_FIN_EDGE}
 use Rattle.memory_layout.specs.Layout.{word, words_of}
 use Rattle.memory_layout.specs.Entries.{list_of}
 use Rattle.split_fin_tests.specs.declared.faces.Cut.{Cut}
@@ -31,8 +31,8 @@ module _ (room w : List ℕ) (x : List Float) where
   -- one fin of test 11
   unfoldable pub fin_test : ℕ → Cut → ℕ → ℕ
   fin_test e c i =
-      let l = word (words_of room w FINS i) AT-FIN-LOOP in
-      1 unless eqb (word (words_of room w FINS i) AT-FIN-EDGE) e
+      let l = word (words_of room w FINS i) AT_FIN_LOOP in
+      1 unless eqb (word (words_of room w FINS i) AT_FIN_EDGE) e
       then 2 unless ltb l (word w LOOPS)
-      then 1 unless eqb (count i (list_of room w LOOP-FINS l)) 1
-      then face_test room w x c (word (words_of room w LOOPS l) AT-LOOP-FACE)
+      then 1 unless eqb (count i (list_of room w LOOP_FINS l)) 1
+      then face_test room w x c (word (words_of room w LOOPS l) AT_LOOP_FACE)

@@ -5,7 +5,7 @@
 ghost use Rattle.std.specs.Prelude.{◌≡◌, ◌<◌, cond, length, take, get_or};
 ghost use Rattle.meaning.specs.Lists.{member};
 ghost use Rattle.meaning.specs.Refuse.{first_of};
-ghost use Rattle.memory_layout.specs.Names.{LOOPS, FINS, AT-LOOP-FACE, AT-FIN-LOOP};
+ghost use Rattle.memory_layout.specs.Names.{LOOPS, FINS, AT_LOOP_FACE, AT_FIN_LOOP};
 ghost use Rattle.memory_layout.specs.Layout.{word, words_of};
 ghost use Rattle.memory_layout.specs.Fit.{Lists};
 ghost use Rattle.split_fins.specs.Fins.{pcurve_test, use_test};
@@ -77,7 +77,7 @@ pub fn use_refusal(room: &[usize; 10], words: &[u32], fins: &[u32], k: usize, ed
 pub fn owner_of(room: &[usize; 10], words: &[u32], fin: usize) -> usize
     requires lists { Lists room.now words.now }
     requires fin_bound { fin < word words.now FINS }
-    ensures { result ≡ word (words_of room.now words.now FINS fin) AT-FIN-LOOP }
+    ensures { result ≡ word (words_of room.now words.now FINS fin) AT_FIN_LOOP }
 {
     let w = words_of(room, words, FINS, fin);
     w[AT_FIN_LOOP] as usize
@@ -86,7 +86,7 @@ pub fn owner_of(room: &[usize; 10], words: &[u32], fin: usize) -> usize
 pub fn face_of(room: &[usize; 10], words: &[u32], owner: usize) -> usize
     requires lists { Lists room.now words.now }
     requires owner_bound { owner < word words.now LOOPS }
-    ensures { result ≡ word (words_of room.now words.now LOOPS owner) AT-LOOP-FACE }
+    ensures { result ≡ word (words_of room.now words.now LOOPS owner) AT_LOOP_FACE }
 {
     let w = words_of(room, words, LOOPS, owner);
     w[AT_LOOP_FACE] as usize

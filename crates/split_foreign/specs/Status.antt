@@ -4,7 +4,7 @@ use Rattle.std.specs.Prelude.{ℕ, Bool, cond, not, ◌&&◌, List, [], ◌∷�
 use Rattle.meaning.specs.Lists.{run, any, member}
 use Rattle.meaning.specs.Formed.{bit}
 use Rattle.meaning.specs.Offices.{body_for}
-use Rattle.memory_layout.specs.Names.{BODIES, REGIONS, SHELLS, FACES, LOOPS, FINS, BODY-REGIONS, REGION-SHELLS, SHELL-FACES, SHELL-WIRES, FACE-LOOPS, LOOP-FINS, AT-FIN-EDGE}
+use Rattle.memory_layout.specs.Names.{BODIES, REGIONS, SHELLS, FACES, LOOPS, FINS, BODY_REGIONS, REGION_SHELLS, SHELL_FACES, SHELL_WIRES, FACE_LOOPS, LOOP_FINS, AT_FIN_EDGE}
 use Rattle.memory_layout.specs.Layout.{word, words_of}
 use Rattle.memory_layout.specs.Decode.{decode}
 use Rattle.memory_layout.specs.Entries.{list_of}
@@ -27,21 +27,21 @@ standing s i = get_or s i 2
 module _ (room w : List ℕ) where
   module _ (e : ℕ) where
     unfoldable pub fin_status : ℕ → ℕ
-    fin_status i = bit (eqb e (word (words_of room w FINS i) AT-FIN-EDGE))
+    fin_status i = bit (eqb e (word (words_of room w FINS i) AT_FIN_EDGE))
 
     -- by list j of the record, whose entries lead to f; a shell's wire edges are listed by the walk, not followed
     unfoldable pub record_status : ℕ → (ℕ → ℕ) → ℕ → ℕ
     record_status j f i =
         let s = greatest f (list_of room w j i) in
-        cond (eqb j SHELL-FACES) (greater s (bit (member e (list_of room w SHELL-WIRES i)))) s
+        cond (eqb j SHELL_FACES) (greater s (bit (member e (list_of room w SHELL_WIRES i)))) s
 
     unfoldable pub body_status : ℕ → ℕ
     body_status =
-        record_status BODY-REGIONS (entry (word w REGIONS)
-        (record_status REGION-SHELLS (entry (word w SHELLS)
-        (record_status SHELL-FACES (entry (word w FACES)
-        (record_status FACE-LOOPS (entry (word w LOOPS)
-        (record_status LOOP-FINS (entry (word w FINS) fin_status)))))))))
+        record_status BODY_REGIONS (entry (word w REGIONS)
+        (record_status REGION_SHELLS (entry (word w SHELLS)
+        (record_status SHELL_FACES (entry (word w FACES)
+        (record_status FACE_LOOPS (entry (word w LOOPS)
+        (record_status LOOP_FINS (entry (word w FINS) fin_status)))))))))
 
   -- the body is the other office's: its id is another for the office (of `decode` the floats make no difference)
   abbrev pub others : ℕ → ℕ → Bool

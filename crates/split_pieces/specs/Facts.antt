@@ -1,6 +1,6 @@
 -- What the inner functions ask, and one that is made on the way. No reader of a public promise needs this file. Definitions only.
 use Rattle.std.specs.Prelude.{ℕ, ◌+◌, ◌≤◌, ◌<◌, List, [], ◌∷◌, length}
-use Rattle.memory_layout.specs.Names.{FINS, EDGES, VERTICES, AT-EDGE-END, AT-EDGE-END-ID, AT-EDGE-CURVE, AT-EDGE-CURVE-ID, AT-EDGE-TOLERANCE}
+use Rattle.memory_layout.specs.Names.{FINS, EDGES, VERTICES, AT_EDGE_END, AT_EDGE_END_ID, AT_EDGE_CURVE, AT_EDGE_CURVE_ID, AT_EDGE_TOLERANCE}
 use Rattle.memory_layout.specs.Layout.{word, words_needed}
 use Rattle.memory_layout.specs.Fit.{Small}
 
@@ -22,11 +22,11 @@ unfoldable pub second_room : List ℕ → ℕ → ℕ → ℕ → List ℕ
 second_room s vertex first n =
     1
     ∷ vertex
-    ∷ word s AT-EDGE-END
-    ∷ word s AT-EDGE-END-ID
-    ∷ word s AT-EDGE-CURVE
-    ∷ word s AT-EDGE-CURVE-ID
-    ∷ word s AT-EDGE-TOLERANCE
+    ∷ word s AT_EDGE_END
+    ∷ word s AT_EDGE_END_ID
+    ∷ word s AT_EDGE_CURVE
+    ∷ word s AT_EDGE_CURVE_ID
+    ∷ word s AT_EDGE_TOLERANCE
     ∷ n
     ∷ first
     ∷ (first + 1)

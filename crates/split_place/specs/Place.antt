@@ -12,7 +12,7 @@ use Rattle.meaning.specs.Lists.{count, count_if, all, all_below}
 use Rattle.meaning.specs.Floats.{float_of}
 use Rattle.meaning.specs.Model.{Model, edge}
 use Rattle.meaning.specs.Split.{is_positive}
-use Rattle.memory_layout.specs.Names.{SHELLS, FINS, EDGES, VERTICES, SHELL-WIRES, LOOP-FINS, AT-FIN-LOOP}
+use Rattle.memory_layout.specs.Names.{SHELLS, FINS, EDGES, VERTICES, SHELL_WIRES, LOOP_FINS, AT_FIN_LOOP}
 use Rattle.memory_layout.specs.Layout.{word, words_of}
 use Rattle.memory_layout.specs.Entries.{list_of}
 use Rattle.split_segment.specs.declared.segment.Segment.{Segment}
@@ -49,15 +49,15 @@ point_test s p precision =
 module _ (room w : List ℕ) where
   -- 12. "A wire shell lists the edge more than once"; 13. a shell gains a wire edge where it lists the edge
   unfoldable pub wire_test : ℕ → Bool → ℕ → Bool
-  wire_test e fit s = cond fit (leb (length (list_of room w SHELL-WIRES s) + count e (list_of room w SHELL-WIRES s)) 256) (leb (count e (list_of room w SHELL-WIRES s)) 1)
+  wire_test e fit s = cond fit (leb (length (list_of room w SHELL_WIRES s) + count e (list_of room w SHELL_WIRES s)) 256) (leb (count e (list_of room w SHELL_WIRES s)) 1)
 
   -- 13. "new fins in one loop counted together": a loop gains as many fins as the edge has in it
   unfoldable pub owned_by : ℕ → ℕ → Bool
-  owned_by l i = eqb (word (words_of room w FINS i) AT-FIN-LOOP) l
+  owned_by l i = eqb (word (words_of room w FINS i) AT_FIN_LOOP) l
 
   unfoldable pub loop_test : List ℕ → ℕ → Bool
   loop_test fins i =
-      leb (length (list_of room w LOOP-FINS (word (words_of room w FINS i) AT-FIN-LOOP)) + count_if (owned_by (word (words_of room w FINS i) AT-FIN-LOOP)) fins) 1024
+      leb (length (list_of room w LOOP_FINS (word (words_of room w FINS i) AT_FIN_LOOP)) + count_if (owned_by (word (words_of room w FINS i) AT_FIN_LOOP)) fins) 1024
 
   -- 13. the tables, and the new edge's own list
   unfoldable pub tables_test : List ℕ → Bool

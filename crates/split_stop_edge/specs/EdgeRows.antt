@@ -10,7 +10,7 @@ use Rattle.meaning.specs.Split.{is_positive}
 use Rattle.meaning.specs.Faults.{of_fin, of_edge}
 use Rattle.meaning_stops.specs.Stops.{this, Part, part, Row, ◌∶◌}
 use Rattle.meaning_stops.specs.Splits.{row1, row2, row3, row4, row5, row6, row7, row8}
-use Rattle.memory_layout.specs.Names.{FINS, VERTICES, AT-FIN-PCURVE, AT-EDGE-START, AT-EDGE-START-ID, AT-EDGE-END, AT-EDGE-END-ID, AT-EDGE-CURVE, AT-EDGE-CURVE-ID}
+use Rattle.memory_layout.specs.Names.{FINS, VERTICES, AT_FIN_PCURVE, AT_EDGE_START, AT_EDGE_START_ID, AT_EDGE_END, AT_EDGE_END_ID, AT_EDGE_CURVE, AT_EDGE_CURVE_ID}
 use Rattle.memory_layout.specs.Layout.{word, words_of}
 use Rattle.memory_layout.specs.Decode.{flag_at}
 use Rattle.split_segment.specs.declared.segment.Segment.{Segment}
@@ -41,25 +41,25 @@ edge_rows m asked e t =
 unfoldable pub pcurve_parts : List ℕ → List ℕ → ℕ → ℕ → List Part
 pcurve_parts room w e i =
     part 1 (2 unless ltb i (word w FINS)) (this of_fin i) (this of_edge e)
-    ∷ part 2 (7 if flag_at (words_of room w FINS i) AT-FIN-PCURVE) (this of_fin i) (this of_edge e)
+    ∷ part 2 (7 if flag_at (words_of room w FINS i) AT_FIN_PCURVE) (this of_fin i) (this of_edge e)
     ∷ []
 
 -- 4. "An end is none: 7", of the edge's words s
 unfoldable pub ends_told : List ℕ → ℕ → Stop
-ends_told s e = first_told (tell_at 4 1 (7 unless flag_at s AT-EDGE-START) 6 e 10 0) (tell_at 4 2 (7 unless flag_at s AT-EDGE-END) 6 e 10 0)
+ends_told s e = first_told (tell_at 4 1 (7 unless flag_at s AT_EDGE_START) 6 e 10 0) (tell_at 4 2 (7 unless flag_at s AT_EDGE_END) 6 e 10 0)
 
 -- 5. "No curve: 1; curve missing: 2; not a line: 7"
 unfoldable pub curve_told : Model → List ℕ → ℕ → Stop
 curve_told m s e =
-    first_told (tell_at 5 1 (1 unless flag_at s AT-EDGE-CURVE) 6 e 10 0)
-    (first_told (tell_at 5 2 (2 unless ltb (word s AT-EDGE-CURVE-ID) m.curves.used) 8 (word s AT-EDGE-CURVE-ID) 6 e)
-    (tell_at 5 3 (line_refusal (curve m (word s AT-EDGE-CURVE-ID))) 8 (word s AT-EDGE-CURVE-ID) 6 e))
+    first_told (tell_at 5 1 (1 unless flag_at s AT_EDGE_CURVE) 6 e 10 0)
+    (first_told (tell_at 5 2 (2 unless ltb (word s AT_EDGE_CURVE_ID) m.curves.used) 8 (word s AT_EDGE_CURVE_ID) 6 e)
+    (tell_at 5 3 (line_refusal (curve m (word s AT_EDGE_CURVE_ID))) 8 (word s AT_EDGE_CURVE_ID) 6 e))
 
 -- 6. "Start, then end vertex missing: 2"
 unfoldable pub vertices_told : List ℕ → List ℕ → ℕ → Stop
 vertices_told w s e =
-    first_told (tell_at 6 1 (2 unless ltb (word s AT-EDGE-START-ID) (word w VERTICES)) 7 (word s AT-EDGE-START-ID) 6 e)
-    (tell_at 6 2 (2 unless ltb (word s AT-EDGE-END-ID) (word w VERTICES)) 7 (word s AT-EDGE-END-ID) 6 e)
+    first_told (tell_at 6 1 (2 unless ltb (word s AT_EDGE_START_ID) (word w VERTICES)) 7 (word s AT_EDGE_START_ID) 6 e)
+    (tell_at 6 2 (2 unless ltb (word s AT_EDGE_END_ID) (word w VERTICES)) 7 (word s AT_EDGE_END_ID) 6 e)
 
 unfoldable pub carried_told : Model → List ℕ → List ℕ → ℕ → Stop
 carried_told m w s e = first_told (ends_told s e) (first_told (curve_told m s e) (vertices_told w s e))

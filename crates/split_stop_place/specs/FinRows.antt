@@ -9,7 +9,7 @@ use Rattle.meaning.specs.Lists.{member, count}
 use Rattle.meaning.specs.Model.{Model, surface}
 use Rattle.meaning.specs.Refuse.{◌if◌}
 use Rattle.meaning.specs.Split.{within}
-use Rattle.memory_layout.specs.Names.{FACES, LOOPS, FINS, LOOP-FINS, AT-FACE-SURFACE, AT-FACE-SURFACE-ID, AT-LOOP-FACE, AT-FIN-LOOP, AT-FIN-EDGE}
+use Rattle.memory_layout.specs.Names.{FACES, LOOPS, FINS, LOOP_FINS, AT_FACE_SURFACE, AT_FACE_SURFACE_ID, AT_LOOP_FACE, AT_FIN_LOOP, AT_FIN_EDGE}
 use Rattle.memory_layout.specs.Layout.{word, words_of}
 use Rattle.memory_layout.specs.Decode.{flag_at, decode}
 use Rattle.memory_layout.specs.Entries.{list_of}
@@ -36,18 +36,18 @@ module _ (room w : List ℕ) (x : List Float) where
   unfoldable pub face_told : ℕ → ℕ → ℕ → Cut → Stop
   face_told f i l c =
       first_told (tell_at 11 5 (2 unless ltb f (word w FACES)) 3 f 4 l)
-      (first_told (tell_at 11 6 (1 unless flag_at (words_of room w FACES f) AT-FACE-SURFACE) 3 f 4 l) (surface_told (decode room w x) (word (words_of room w FACES f) AT-FACE-SURFACE-ID) f i l c))
+      (first_told (tell_at 11 6 (1 unless flag_at (words_of room w FACES f) AT_FACE_SURFACE) 3 f 4 l) (surface_told (decode room w x) (word (words_of room w FACES f) AT_FACE_SURFACE_ID) f i l c))
 
   -- "not exactly once in its loop 1"
   unfoldable pub loop_told : ℕ → ℕ → Cut → Stop
-  loop_told i l c = first_told (tell_at 11 4 (1 unless eqb (count i (list_of room w LOOP-FINS l)) 1) 5 i 4 l) (face_told (word (words_of room w LOOPS l) AT-LOOP-FACE) i l c)
+  loop_told i l c = first_told (tell_at 11 4 (1 unless eqb (count i (list_of room w LOOP_FINS l)) 1) 5 i 4 l) (face_told (word (words_of room w LOOPS l) AT_LOOP_FACE) i l c)
 
 -- "repeated 1; points to another edge 1; loop missing 2"
 unfoldable pub use_told : List ℕ → List ℕ → ℕ → List ℕ → ℕ → Stop
 use_told room w e seen i =
     first_told (tell_at 11 1 (1 if member i seen) 5 i 6 e)
-    (first_told (tell_at 11 2 (1 unless eqb (word (words_of room w FINS i) AT-FIN-EDGE) e) 5 i 6 e)
-    (tell_at 11 3 (2 unless ltb (word (words_of room w FINS i) AT-FIN-LOOP) (word w LOOPS)) 4 (word (words_of room w FINS i) AT-FIN-LOOP) 5 i))
+    (first_told (tell_at 11 2 (1 unless eqb (word (words_of room w FINS i) AT_FIN_EDGE) e) 5 i 6 e)
+    (tell_at 11 3 (2 unless ltb (word (words_of room w FINS i) AT_FIN_LOOP) (word w LOOPS)) 4 (word (words_of room w FINS i) AT_FIN_LOOP) 5 i))
 
 unfoldable pub fin_told : List ℕ → List ℕ → List Float → ℕ → Cut → List ℕ → ℕ → Stop
-fin_told room w x e c seen i = first_told (use_told room w e seen i) (loop_told room w x i (word (words_of room w FINS i) AT-FIN-LOOP) c)
+fin_told room w x e c seen i = first_told (use_told room w e seen i) (loop_told room w x i (word (words_of room w FINS i) AT_FIN_LOOP) c)

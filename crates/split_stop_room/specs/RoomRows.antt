@@ -5,7 +5,7 @@ use Rattle.meaning.specs.Model.{Model, Limits}
 use Rattle.meaning.specs.Faults.{of_shell, of_loop, of_fin}
 use Rattle.meaning_stops.specs.Stops.{this, nothing, Part, part, Row, ◌∶◌}
 use Rattle.meaning_stops.specs.Splits.{row12, row13}
-use Rattle.memory_layout.specs.Names.{FINS, EDGES, VERTICES, AT-FIN-LOOP}
+use Rattle.memory_layout.specs.Names.{FINS, EDGES, VERTICES, AT_FIN_LOOP}
 use Rattle.memory_layout.specs.Layout.{word, words_of}
 use Rattle.split_place.specs.Place.{wire_test, loop_test}
 use Rattle.split_stop_parts.specs.declared.Stop.{Stop}
@@ -21,7 +21,7 @@ module _ (room w : List ℕ) where
 
   -- 13. the slots of the loop of the fin i, one of the edge's fins
   unfoldable pub loop_part : List ℕ → ℕ → Part
-  loop_part fins i = part 5 (8 unless loop_test room w fins i) (this of_loop (word (words_of room w FINS i) AT-FIN-LOOP)) (this of_fin i)
+  loop_part fins i = part 5 (8 unless loop_test room w fins i) (this of_loop (word (words_of room w FINS i) AT_FIN_LOOP)) (this of_fin i)
 
   -- 13. the tables, and the new edge's own list, of n fins
   unfoldable pub tables_told : ℕ → ℕ → Stop

@@ -3,7 +3,7 @@
 #![tactic(auto)]
 
 ghost use Rattle.std.specs.Prelude.{◌≡◌, ◌<◌, length};
-ghost use Rattle.memory_layout.specs.Names.{EDGES, EDGE-FINS};
+ghost use Rattle.memory_layout.specs.Names.{EDGES, EDGE_FINS};
 ghost use Rattle.memory_layout.specs.Layout.{word};
 ghost use Rattle.memory_layout.specs.Entries.{list_of};
 ghost use Rattle.memory_layout.specs.Fit.{Lists};
@@ -69,8 +69,8 @@ fn write_with(
 fn copy_fins(room: &[usize; 10], words: &[u32], edge: usize, out: &mut [u32])
     requires lists { Lists room.now words.now }
     requires edge_bound { edge < word words.now EDGES }
-    requires out_len { length out.old ≡ length (list_of room.now words.now EDGE-FINS edge) }
-    ensures { out.new ≡ list_of room.now words.now EDGE-FINS edge }
+    requires out_len { length out.old ≡ length (list_of room.now words.now EDGE_FINS edge) }
+    ensures { out.new ≡ list_of room.now words.now EDGE_FINS edge }
 {
     write_words(out, 0, list(room, words, EDGE_FINS, edge));
 }
@@ -85,9 +85,9 @@ fn write_read(
     senses: &mut [u32],
 )
     requires listing { Listing room.now words.old edge }
-    requires fins_len { length fins.old ≡ length (list_of room.now words.old EDGE-FINS edge) }
-    requires owners_len { length owners.old ≡ length (list_of room.now words.old EDGE-FINS edge) }
-    requires senses_len { length senses.old ≡ length (list_of room.now words.old EDGE-FINS edge) }
+    requires fins_len { length fins.old ≡ length (list_of room.now words.old EDGE_FINS edge) }
+    requires owners_len { length owners.old ≡ length (list_of room.now words.old EDGE_FINS edge) }
+    requires senses_len { length senses.old ≡ length (list_of room.now words.old EDGE_FINS edge) }
     ensures { words.new ≡ words_split room.now words.old edge }
 {
     copy_fins(room, &words[..], edge, fins);

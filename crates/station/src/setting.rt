@@ -5,7 +5,7 @@ ghost use Rattle.meaning.specs.Offices.{body_for};
 ghost use Rattle.c_lent.specs.Lent.{was, lent, held};
 ghost use Rattle.c_values.specs.Given.{body_in, region_known, face_known, fin_known, carrier_known, edge_good, vertex_good, kind_given, region_given, shell_given, face_given, loop_given, fin_given, edge_given, vertex_given, carrier_given, edge_own, vertex_own, carrier_own};
 ghost use Rattle.edit_tags.specs.Tags.{mark};
-ghost use Rattle.memory_layout.specs.Names.{BODIES, REGIONS, SHELLS, FACES, LOOPS, FINS, EDGES, VERTICES, CURVES, SURFACES, AT-FIN-PCURVE};
+ghost use Rattle.memory_layout.specs.Names.{BODIES, REGIONS, SHELLS, FACES, LOOPS, FINS, EDGES, VERTICES, CURVES, SURFACES, AT_FIN_PCURVE};
 
 #[unsafe(no_mangle)]
 pub extern "C" fn brunskerl_set_body(
@@ -171,7 +171,7 @@ pub extern "C" fn brunskerl_set_fin_geometry(
     id: usize,
 ) -> u32
     ensures answer { result ≡ lent edit_number room words reals true FINS id }
-    ensures tables { words.new ≡ lent edit_words room words reals true FINS id AT-FIN-PCURVE (mark true ∷ []) }
+    ensures tables { words.new ≡ lent edit_words room words reals true FINS id AT_FIN_PCURVE (mark true ∷ []) }
     ensures floats { reals.new ≡ lent edit_reals room words reals true FINS id [] }
 {
     edit_sets::set_fin_geometry(room, words, reals, id)

@@ -34,13 +34,13 @@ point-back p h =
     let both = and_both (narrow p.x) (narrow p.y) front.0 in
     rw (coordinate-back p.x both.0, coordinate-back p.y both.1, coordinate-back p.z front.1)
 
-abbrev of-corners : Point3 → Point3 → Point3 → Triangle
-of-corners p q r = record { a = p; b = q; c = r }
+abbrev of_corners : Point3 → Point3 → Point3 → Triangle
+of_corners p q r = record { a = p; b = q; c = r }
 
 triangle-back : (t : Triangle) (s : List ℕ) → narrow_point t.a ≡ true → narrow_point t.b ≡ true → narrow_point t.c ≡ true → triangle_in (triangle_bytes t ++ s) ≡ t
 unfolding triangle_in corner_in coordinate_in triangle_bytes joined little number
 triangle-back t s f g h =
-    ap (λ p. of-corners p (again t.b) (again t.c)) (point-back t.a f) ∙ ap (λ p. of-corners t.a p (again t.c)) (point-back t.b g) ∙ ap (λ p. of-corners t.a t.b p) (point-back t.c h)
+    ap (λ p. of_corners p (again t.b) (again t.c)) (point-back t.a f) ∙ ap (λ p. of_corners t.a p (again t.c)) (point-back t.b g) ∙ ap (λ p. of_corners t.a t.b p) (point-back t.c h)
 
 triangles-back : (l : List Triangle) → narrow_points (corners l) ≡ true → triangles_in (length l) (triangles_bytes l) ≡ l
 unfolding triangles_in triangles_bytes narrow_points corners

@@ -154,8 +154,8 @@ module _ (m : Model) (o : Office) (l : List Triangle) (p : Proper (mesh_of l)) (
       how-many : (mesh_of l).triangles ≡ length l
       how-many = unfold mesh_of in refl
 
-      of-corners : Point3 → Point3 → Point3 → List Triangle
-      of-corners a b c = record { a = a; b = b; c = c } ∷ []
+      of_corners : Point3 → Point3 → Point3 → List Triangle
+      of_corners a b c = record { a = a; b = b; c = c } ∷ []
 
       at : ℕ → Point3
       at v = get_or (mesh_of l).points v nowhere

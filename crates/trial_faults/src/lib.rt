@@ -3,7 +3,7 @@
 #![tactic(auto)]
 
 ghost use Rattle.std.specs.Prelude.{◌≡◌, ◌/◌, min, length, replicate};
-ghost use Rattle.check_fault_list.specs.List.{no-fault, written};
+ghost use Rattle.check_fault_list.specs.List.{no_fault, written};
 
 use check_fault_list::{Fault, faults_fill};
 
@@ -22,7 +22,7 @@ fn both(count: usize, list: [Fault; 4]) -> Kept
 
 // The first faults, as many as fit.
 pub fn entries(nums: &[u32], total: usize) -> Kept
-    ensures { (result.count ≡ min total (min 4 (length nums.now / 4))) × (result.list ≡ written (replicate 4 no-fault) nums.now result.count) }
+    ensures { (result.count ≡ min total (min 4 (length nums.now / 4))) × (result.list ≡ written (replicate 4 no_fault) nums.now result.count) }
 {
     let none = Fault {
         kind: 0,

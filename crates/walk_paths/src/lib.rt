@@ -5,7 +5,7 @@
 
 ghost use Rattle.std.specs.Prelude.{◌≡◌, true, [], ◌+◌, ◌<◌, ◌≤◌, ltb, length, replicate};
 ghost use Rattle.meaning.specs.Lists.{all, joined};
-ghost use Rattle.memory_layout.specs.Names.{FACES, FACE-LOOPS, LOOP-FINS};
+ghost use Rattle.memory_layout.specs.Names.{FACES, FACE_LOOPS, LOOP_FINS};
 ghost use Rattle.memory_layout.specs.Layout.{word};
 ghost use Rattle.memory_layout.specs.Entries.{list_of};
 ghost use Rattle.memory_layout.specs.Fit.{Lists};
@@ -109,7 +109,7 @@ pub fn faces(
 fn all_loops_followed(room: &[usize; 10], words: &[u32], faces: &[u32]) -> bool
     requires lists { Lists room.now words.now }
     requires faces_value { all (λ f. ltb f (word words.now FACES)) faces.now ≡ true }
-    ensures { result ≡ all (followed room.now words.now LOOP-FINS) (joined (list_of room.now words.now FACE-LOOPS) faces.now) }
+    ensures { result ≡ all (followed room.now words.now LOOP_FINS) (joined (list_of room.now words.now FACE_LOOPS) faces.now) }
 {
     let mut ok = true;
     let mut k = 0;

@@ -1,7 +1,7 @@
 -- Sources and their parts, on the lent words. No reader of a public promise needs this file. Definitions only.
 use Rattle.std.specs.Prelude.{ℕ, ◌+◌, ◌*◌, ◌/◌, ◌%◌, ◌≤◌, ◌<◌, ◌≡◌, Bool, true, cond, ◌&&◌, List, [], ◌∷◌, ◌++◌, map, eqb, ltb, length}
 use Rattle.meaning.specs.Lists.{all, listed}
-use Rattle.memory_layout.specs.Names.{REGIONS, SHELLS, FACES, LOOPS, FINS, EDGES, VERTICES, LOOP-FINS, EDGE-FINS, AT-FIN-EDGE, AT-EDGE-START, AT-EDGE-START-ID, AT-EDGE-END, AT-EDGE-END-ID}
+use Rattle.memory_layout.specs.Names.{REGIONS, SHELLS, FACES, LOOPS, FINS, EDGES, VERTICES, LOOP_FINS, EDGE_FINS, AT_FIN_EDGE, AT_EDGE_START, AT_EDGE_START_ID, AT_EDGE_END, AT_EDGE_END_ID}
 use Rattle.memory_layout.specs.Layout.{word, words_of}
 use Rattle.memory_layout.specs.Decode.{maybe_at}
 use Rattle.memory_layout.specs.Entries.{list_tables, list_of}
@@ -13,20 +13,20 @@ entry_tables = REGIONS ∷ SHELLS ∷ FACES ∷ EDGES ∷ VERTICES ∷ LOOPS ∷
 
 -- the edge that a fin names
 abbrev pub fin_edge : List ℕ → List ℕ → ℕ → ℕ
-fin_edge room w i = word (words_of room w FINS i) AT-FIN-EDGE
+fin_edge room w i = word (words_of room w FINS i) AT_FIN_EDGE
 
 -- an end by its tag, and the ends in an edge's words
 abbrev pub end_of : ℕ → ℕ → List ℕ
 end_of tag x = cond (eqb tag 0) [] (x ∷ [])
 
 abbrev pub ends_in : List ℕ → List ℕ
-ends_in s = end_of (word s AT-EDGE-START) (word s AT-EDGE-START-ID) ++ end_of (word s AT-EDGE-END) (word s AT-EDGE-END-ID)
+ends_in s = end_of (word s AT_EDGE_START) (word s AT_EDGE_START_ID) ++ end_of (word s AT_EDGE_END) (word s AT_EDGE_END_ID)
 
 -- the ids of list j of record i: the edges for a loop's fins, the ends for an edge's
 unfoldable pub part_in : List ℕ → List ℕ → ℕ → ℕ → List ℕ
 part_in room w j i =
-    cond (eqb j EDGE-FINS) (ends_in (words_of room w EDGES i))
-    (cond (eqb j LOOP-FINS) (map (fin_edge room w) (list_of room w LOOP-FINS i)) (list_of room w j i))
+    cond (eqb j EDGE_FINS) (ends_in (words_of room w EDGES i))
+    (cond (eqb j LOOP_FINS) (map (fin_edge room w) (list_of room w LOOP_FINS i)) (list_of room w j i))
 
 unfoldable pub part_of : List ℕ → List ℕ → ℕ → List ℕ
 part_of room w source = part_in room w (source % 8) (source / 8)
@@ -42,7 +42,7 @@ followed room w j i = ltb i (word w (word list_tables j)) && all (λ x. ltb x (w
 -- the source's record exists, and so do a loop's fins
 pub record Source (room w : List ℕ) (source : ℕ) : Type 0 where
   pub slot : source / 8 < word w (word list_tables (source % 8))
-  pub fins : source % 8 ≡ LOOP-FINS → all (λ x. ltb x (word w FINS)) (list_of room w LOOP-FINS (source / 8)) ≡ true
+  pub fins : source % 8 ≡ LOOP_FINS → all (λ x. ltb x (word w FINS)) (list_of room w LOOP_FINS (source / 8)) ≡ true
 
 pub record Sources (room w path : List ℕ) : Type 0 where
   pub at : (p : ℕ) → p < length path → Source room w (word path p)

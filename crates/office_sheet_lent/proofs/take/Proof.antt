@@ -64,18 +64,18 @@ use Rattle.office_sheet_lent.proofs.take.Code as code
 abbrev room_at : Slot 5
 room_at = shr_ref_to (0 ∷ []) tt (array_of (plain (λ _. usize)) 10)
 
-abbrev words-at : Slot 5
-words-at = shr_slice_of (1 ∷ []) tt (plain (λ _. u32))
+abbrev words_at : Slot 5
+words_at = shr_slice_of (1 ∷ []) tt (plain (λ _. u32))
 
-abbrev reals-at : Slot 5
-reals-at = shr_slice_of (2 ∷ []) tt (plain (λ _. f64))
+abbrev reals_at : Slot 5
+reals_at = shr_slice_of (2 ∷ []) tt (plain (λ _. f64))
 
 abbrev row_at : RattleType → Slot 5
 row_at U = plain (λ _. U)
 
 -- `taken` has all but the sheet for good, and of that only the marks are said
 abbrev stayed : Stays (this.ended).signature.params (this.ended).kept
-stayed = (stay_dropped room_at yes, (stay_dropped words-at yes, (stay_dropped reals-at yes, (stay_dropped (row_at u32) yes, (stay_dropped (row_at usize) yes, (gave_slice (3 ∷ []) tt (row_at u8), (stay_ref (4 ∷ []) tt (row_at T.the_row), tt)))))))
+stayed = (stay_dropped room_at yes, (stay_dropped words_at yes, (stay_dropped reals_at yes, (stay_dropped (row_at u32) yes, (stay_dropped (row_at usize) yes, (gave_slice (3 ∷ []) tt (row_at u8), (stay_ref (4 ∷ []) tt (row_at T.the_row), tt)))))))
 
 -- the contract that the proof cites
 abbrev TakenC : {M : Type 1} {𝓤 : Ura M} (𝓛 : Logic 𝓤) (mem : Memory → SProp 𝓤) (run : Routine → Fun 𝓤) → Contract 𝓤
@@ -249,7 +249,7 @@ module _ {M : Type 1} {𝓤 : Ura M} (𝓛 : Logic 𝓤) (mem : Memory → SProp
 goes : {M : Type 1} {𝓤 : Ura M} (𝓛 : Logic 𝓤) → AllGo 𝓛 5 (this.signature).params (this.ended).kept stayed
 goes 𝓛 =
     let none : (s : Slot 5) → Silent 𝓛 5 s yes → Goes 𝓛 5 s yes (stay_dropped s yes) = λ s. Goes-dropped 𝓛 5 s yes in
-    (none room_at (λ κs x f. refl), (none words-at (λ κs x f. refl), (none reals-at (λ κs x f. refl), (none (row_at u32) (λ κs x f. refl), (none (row_at usize) (λ κs x f. refl), (Goes-gave_slice 𝓛 5 3 tt (row_at u8), (Goes-ref 𝓛 5 4 tt (row_at T.the_row), tt)))))))
+    (none room_at (λ κs x f. refl), (none words_at (λ κs x f. refl), (none reals_at (λ κs x f. refl), (none (row_at u32) (λ κs x f. refl), (none (row_at usize) (λ κs x f. refl), (Goes-gave_slice 𝓛 5 3 tt (row_at u8), (Goes-ref 𝓛 5 4 tt (row_at T.the_row), tt)))))))
 
 take_meets : {M : Type 1} {𝓤 : Ura M} (𝓛 : Logic 𝓤) → (mem : Memory → SProp 𝓤) (run : Routine → Fun 𝓤) (𝓣 : Tables 𝓤 𝓛.H) → Triple 𝓤 (𝓣.C #office-sheets·taken) (TakenC 𝓛 mem run)
     → Meets 𝓛 this.signature (WpFn 𝓤 𝓛.H 𝓣.C 𝓣.Λ code.function) (this.spec 𝓛 mem run)

@@ -47,7 +47,7 @@ use denote.Triple.Spec.{Meets, triple_of}
 use denote.Triple.Table.{entered, cited}
 use denote.Triple.Walked.{says, Stays, stay_none_slice, stay_none, walk_of, Goes-none_slice, Goes-none, Walks, ends_at, walked, walk_Meets}
 use denote.Exit.{yes}
-use Rattle.check_fault_list.specs.List.{no-fault, written}
+use Rattle.check_fault_list.specs.List.{no_fault, written}
 use Rattle.check_fault_list.specs.declared.Fault.{Fault}
 use Rattle.check_fault_list.specs.contracts.Fault as T
 use Rattle.check_fault_list.proofs.Fault.TheLaws as T'
@@ -86,13 +86,13 @@ tells = Array-Tells T.the_row (LL.vals T.the_type T'.the_laws) (LL.tells T.the_t
 
 -- before the call: four times nothing
 abbrev nones : List Fault
-nones = replicate 4 no-fault
+nones = replicate 4 no_fault
 
-none_is : Is T.the_row no-fault (LL.vals T.the_type T'.the_laws no-fault)
-none_is = LL.owes T.the_type T'.the_laws no-fault ((refl, lit< tt), ((refl, lit< tt), ((refl, lit< tt), ((refl, lit< tt), tt))))
+none_is : Is T.the_row no_fault (LL.vals T.the_type T'.the_laws no_fault)
+none_is = LL.owes T.the_type T'.the_laws no_fault ((refl, lit< tt), ((refl, lit< tt), ((refl, lit< tt), ((refl, lit< tt), tt))))
 
 nones-are : Is Four nones (val nones ∷ [])
-nones-are = (replicate 4 (LL.val T.the_type T'.the_laws no-fault), ((refl, refl), (none_is, (none_is, (none_is, (none_is, tt))))))
+nones-are = (replicate 4 (LL.val T.the_type T'.the_laws no_fault), ((refl, refl), (none_is, (none_is, (none_is, (none_is, tt))))))
 
 four-room : Room T.the_row 4
 four-room = (lit< tt, lit< tt)
@@ -195,7 +195,7 @@ module _ {M : Type 1} {𝓤 : Ura M} (𝓛 : Logic 𝓤) (mem : Memory → SProp
         alloc1 ! (λ l₀. alloc1 ! (λ l₁. alloc1 ! (λ l₂. alloc1 ! (λ l₃. alloc1 ! (λ l₄. alloc1 ! (λ l₅. alloc1 ! (λ l₆. alloc1 ! (λ l₇. alloc1 ! (λ l₈. alloc0 ! $ params1 ! $
         pass1 ! (init ! 14 refl (tt, (tt, (record { fits = room.0 }, tt)))) $ pass1 ! (init ! 12 refl (tt, record { fits = k-fits })) $ pass0 ! $
         -- [_8; …; _7; …; _6; …; _5; …; _4; …; _3; …; _2; …; _1; …; room for _0; …; the token; what nums and total own]
-        assigns ! (agg ! (and_then ! (lit ! tt) (and_then ! (lit ! tt) (and_then ! (lit ! tt) (and_then ! (lit ! tt) (no_more !)))))) (from ! (stop !)) (init ! 10 refl ((LL.lawful T.the_type T'.the_laws 𝓛).typed no-fault _ none_is).0) $
+        assigns ! (agg ! (and_then ! (lit ! tt) (and_then ! (lit ! tt) (and_then ! (lit ! tt) (and_then ! (lit ! tt) (no_more !)))))) (from ! (stop !)) (init ! 10 refl ((LL.lawful T.the_type T'.the_laws 𝓛).typed no_fault _ none_is).0) $
         assigns ! (rep ! 4 (load ! (from ! (stop !)) (look ! 10 refl))) (from ! (stop !)) (init ! 8 refl ((Array-Lawful 𝓛 T.the_row (LL.lawful T.the_type T'.the_laws 𝓛) 4).typed nones _ nones-are).0) $
         assigns ! (addr ! (from ! (stop !))) (from ! (stop !)) (init ! 4 refl (tt, tt)) $
         assigns ! (agg ! (and_then ! (load ! (from ! (stop !)) (look ! 4 refl)) (and_then ! (lit ! tt) (no_more !)))) (from ! (stop !)) (init ! 2 refl (tt, (tt, (record { fits = lit< tt }, tt)))) $

@@ -2,7 +2,7 @@
 use Prim.Native.Nat.{ℕ}
 use mathlib.Core.Path.{ap, ap₂, ◌∙◌}
 use mathlib.Core.List.{List}
-use Rattle.memory_layout.specs.Names.{AT-SHELL-WIRES, AT-SHELL-ACORNS}
+use Rattle.memory_layout.specs.Names.{AT_SHELL_WIRES, AT_SHELL_ACORNS}
 use Rattle.image_loading.specs.Steps.{behind_list, list_over, behind_lists, lists_over}
 use borrow.Author.Rules.{rules}
 use Rattle.image_loading.proofs.parts.load_shell.Statement.{statement}
@@ -36,8 +36,8 @@ returns c =
     let third = c.before.before.load-list3.ensures in
     let acorns = second.1 ∙ ap (behind_list b) first.1 in (
       third.0
-          ∙ ap₂ (λ (a : ℕ) (v : List ℕ). list_over b a AT-SHELL-ACORNS v) acorns
-          (second.0 ∙ ap₂ (λ (a : ℕ) (v : List ℕ). list_over b a AT-SHELL-WIRES v) first.1 first.0),
+          ∙ ap₂ (λ (a : ℕ) (v : List ℕ). list_over b a AT_SHELL_ACORNS v) acorns
+          (second.0 ∙ ap₂ (λ (a : ℕ) (v : List ℕ). list_over b a AT_SHELL_WIRES v) first.1 first.0),
       third.1 ∙ ap (behind_list b) acorns,
     )
 
