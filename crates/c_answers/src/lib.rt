@@ -7,7 +7,7 @@ ghost use Rattle.station_answers.specs.declared.Volume.TheVariants as Volumes;
 ghost use Rattle.station_answers.specs.declared.Split.TheVariants as Splits;
 ghost use Rattle.station_answers.specs.declared.Checked.TheVariants as Checks;
 ghost use Rattle.station_answers.specs.declared.Sawable.TheVariants as Saws;
-ghost use Rattle.c_lent.specs.Lent.{was, Crosses, alone};
+ghost use Rattle.c_lent.specs.Lent.{Crosses, alone};
 ghost use Rattle.c_answers.specs.Values.{corners_value, split_value, counts_value, mark_value};
 
 use inquire_bbox::bbox::Aabb;
@@ -20,7 +20,7 @@ fn box_value(b: Aabb) -> [f64; 6]
 }
 
 pub fn put_box(answer: BoxFound, value: &mut [f64; 6]) -> u32
-    ensures { Crosses Boxes.Is Boxes.Refused corners_value answer result (was value) value.new }
+    ensures { Crosses Boxes.Is Boxes.Refused corners_value answer result value.old value.new }
 {
     match answer {
         BoxFound::Is(b) => {
@@ -32,7 +32,7 @@ pub fn put_box(answer: BoxFound, value: &mut [f64; 6]) -> u32
 }
 
 pub fn put_volume(answer: Volume, value: &mut [f64; 1]) -> u32
-    ensures { Crosses Volumes.Is Volumes.Refused alone answer result (was value) value.new }
+    ensures { Crosses Volumes.Is Volumes.Refused alone answer result value.old value.new }
 {
     match answer {
         Volume::Is(v) => {
@@ -44,7 +44,7 @@ pub fn put_volume(answer: Volume, value: &mut [f64; 1]) -> u32
 }
 
 pub fn put_split(answer: Split, value: &mut [u32; 3]) -> u32
-    ensures { Crosses Splits.Is Splits.Refused split_value answer result (was value) value.new }
+    ensures { Crosses Splits.Is Splits.Refused split_value answer result value.old value.new }
 {
     match answer {
         Split::Is(made) => {
@@ -56,7 +56,7 @@ pub fn put_split(answer: Split, value: &mut [u32; 3]) -> u32
 }
 
 pub fn put_counts(answer: Checked, value: &mut [usize; 3]) -> u32
-    ensures { Crosses Checks.Is Checks.Refused counts_value answer result (was value) value.new }
+    ensures { Crosses Checks.Is Checks.Refused counts_value answer result value.old value.new }
 {
     match answer {
         Checked::Is(counts) => {
@@ -77,7 +77,7 @@ fn mark(yes: bool) -> u32
 }
 
 pub fn put_fit(answer: Sawable, value: &mut [u32; 1]) -> u32
-    ensures { Crosses Saws.Is Saws.Refused mark_value answer result (was value) value.new }
+    ensures { Crosses Saws.Is Saws.Refused mark_value answer result value.old value.new }
 {
     match answer {
         Sawable::Is(fit) => {

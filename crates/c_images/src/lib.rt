@@ -5,14 +5,14 @@ ghost use Rattle.std.specs.Prelude.{◌≡◌, length};
 ghost use Rattle.memory_writes.specs.Put.{unless_refused};
 ghost use Rattle.image_format.specs.Image.{image_of};
 ghost use Rattle.image_writer.specs.Answers.{length_number, write_number, written_bytes};
-ghost use Rattle.c_lent.specs.Lent.{was, lent, held, alone};
+ghost use Rattle.c_lent.specs.Lent.{lent, held, alone};
 
 use image_writer::Length;
 
 // How many bytes the image takes.
 pub fn image_length(room: &[usize; 10], words: &[u32], reals: &[f64], value: &mut [usize; 1]) -> u32
     ensures answer { result ≡ lent length_number room words reals }
-    ensures slots { value.new ≡ unless_refused result (alone (length (image_of (held room words reals)))) (was value) }
+    ensures slots { value.new ≡ unless_refused result (alone (length (image_of (held room words reals)))) value.old }
 {
     match image_writer::image_length(room, words, reals) {
         Length::Is(n) => {
@@ -31,9 +31,9 @@ pub fn write_image(
     bytes: &mut [u8],
     value: &mut [usize; 1],
 ) -> u32
-    ensures answer { result ≡ lent write_number room words reals (was bytes) }
-    ensures slots { value.new ≡ unless_refused result (alone (length (image_of (held room words reals)))) (was value) }
-    ensures image { bytes.new ≡ lent written_bytes room words reals (was bytes) }
+    ensures answer { result ≡ lent write_number room words reals bytes.old }
+    ensures slots { value.new ≡ unless_refused result (alone (length (image_of (held room words reals)))) value.old }
+    ensures image { bytes.new ≡ lent written_bytes room words reals bytes.old }
 {
     match image_writer::write_image(room, words, reals, bytes) {
         Length::Is(long) => {

@@ -10,7 +10,7 @@ ghost use Rattle.memory_records.specs.Seen.{seen_body, seen_region, seen_shell, 
 ghost use Rattle.edit_fields.specs.Fields.{carrier_fields, carrier_floats};
 ghost use Rattle.meaning.specs.Offices.{body_for};
 ghost use Rattle.office_bodies.specs.Answers.{office_body_number};
-ghost use Rattle.c_lent.specs.Lent.{was, lent, held};
+ghost use Rattle.c_lent.specs.Lent.{lent, held};
 ghost use Rattle.c_values.specs.Crossing.{body_value, region_value, shell_value, face_value, loop_value, fin_value, edge_value, vertex_value, edge_reals, vertex_reals};
 
 use c_values::values::{
@@ -32,7 +32,7 @@ pub fn body(
     value: &mut [u32; 2],
 ) -> u32
     ensures answer { result ≡ lent office_body_number room words reals office id }
-    ensures slots { value.new ≡ unless_refused result (body_value (seen_body ((held room words reals).bodies.slot (body_for (held room words reals) office id)))) (was value) }
+    ensures slots { value.new ≡ unless_refused result (body_value (seen_body ((held room words reals).bodies.slot (body_for (held room words reals) office id)))) value.old }
 {
     match office_bodies::body(room, words, reals, office, id) {
         BodyFound::Is(r) => {
@@ -51,7 +51,7 @@ pub fn region(
     value: &mut [u32; 3],
 ) -> u32
     ensures answer { result ≡ 9 unless lent readable room words reals then 2 unless has (held room words reals).regions id }
-    ensures slots { value.new ≡ unless_refused result (region_value (seen_region ((held room words reals).regions.slot id))) (was value) }
+    ensures slots { value.new ≡ unless_refused result (region_value (seen_region ((held room words reals).regions.slot id))) value.old }
 {
     match memory_lookups::region(room, words, reals, id) {
         RegionFound::Is(r) => {
@@ -70,7 +70,7 @@ pub fn shell(
     value: &mut [u32; 4],
 ) -> u32
     ensures answer { result ≡ 9 unless lent readable room words reals then 2 unless has (held room words reals).shells id }
-    ensures slots { value.new ≡ unless_refused result (shell_value (seen_shell ((held room words reals).shells.slot id))) (was value) }
+    ensures slots { value.new ≡ unless_refused result (shell_value (seen_shell ((held room words reals).shells.slot id))) value.old }
 {
     match memory_lookups::shell(room, words, reals, id) {
         ShellFound::Is(r) => {
@@ -89,7 +89,7 @@ pub fn face(
     value: &mut [u32; 8],
 ) -> u32
     ensures answer { result ≡ 9 unless lent readable room words reals then 2 unless has (held room words reals).faces id }
-    ensures slots { value.new ≡ unless_refused result (face_value (seen_face ((held room words reals).faces.slot id))) (was value) }
+    ensures slots { value.new ≡ unless_refused result (face_value (seen_face ((held room words reals).faces.slot id))) value.old }
 {
     match memory_lookups::face(room, words, reals, id) {
         FaceFound::Is(r) => {
@@ -108,7 +108,7 @@ pub fn loop_(
     value: &mut [u32; 2],
 ) -> u32
     ensures answer { result ≡ 9 unless lent readable room words reals then 2 unless has (held room words reals).loops id }
-    ensures slots { value.new ≡ unless_refused result (loop_value (seen_loop ((held room words reals).loops.slot id))) (was value) }
+    ensures slots { value.new ≡ unless_refused result (loop_value (seen_loop ((held room words reals).loops.slot id))) value.old }
 {
     match memory_lookups::loop_(room, words, reals, id) {
         LoopFound::Is(r) => {
@@ -121,7 +121,7 @@ pub fn loop_(
 
 pub fn fin(room: &[usize; 10], words: &[u32], reals: &[f64], id: usize, value: &mut [u32; 4]) -> u32
     ensures answer { result ≡ 9 unless lent readable room words reals then 2 unless has (held room words reals).fins id }
-    ensures slots { value.new ≡ unless_refused result (fin_value (seen_fin ((held room words reals).fins.slot id))) (was value) }
+    ensures slots { value.new ≡ unless_refused result (fin_value (seen_fin ((held room words reals).fins.slot id))) value.old }
 {
     match memory_lookups::fin(room, words, reals, id) {
         FinFound::Is(r) => {
@@ -141,8 +141,8 @@ pub fn edge(
     floats: &mut [f64; 1],
 ) -> u32
     ensures answer { result ≡ 9 unless lent readable room words reals then 2 unless has (held room words reals).edges id }
-    ensures slots { value.new ≡ unless_refused result (edge_value (seen_edge ((held room words reals).edges.slot id))) (was value) }
-    ensures floats { floats.new ≡ unless_refused result (edge_reals (seen_edge ((held room words reals).edges.slot id))) (was floats) }
+    ensures slots { value.new ≡ unless_refused result (edge_value (seen_edge ((held room words reals).edges.slot id))) value.old }
+    ensures floats { floats.new ≡ unless_refused result (edge_reals (seen_edge ((held room words reals).edges.slot id))) floats.old }
 {
     match memory_lookups::edge(room, words, reals, id) {
         EdgeFound::Is(r) => {
@@ -163,8 +163,8 @@ pub fn vertex(
     floats: &mut [f64; 4],
 ) -> u32
     ensures answer { result ≡ 9 unless lent readable room words reals then 2 unless has (held room words reals).vertices id }
-    ensures slots { value.new ≡ unless_refused result (vertex_value (seen_vertex ((held room words reals).vertices.slot id))) (was value) }
-    ensures floats { floats.new ≡ unless_refused result (vertex_reals (seen_vertex ((held room words reals).vertices.slot id))) (was floats) }
+    ensures slots { value.new ≡ unless_refused result (vertex_value (seen_vertex ((held room words reals).vertices.slot id))) value.old }
+    ensures floats { floats.new ≡ unless_refused result (vertex_reals (seen_vertex ((held room words reals).vertices.slot id))) floats.old }
 {
     match memory_lookups::vertex(room, words, reals, id) {
         VertexFound::Is(r) => {
@@ -185,8 +185,8 @@ pub fn curve(
     floats: &mut [f64; 6],
 ) -> u32
     ensures answer { result ≡ 9 unless lent readable room words reals then 2 unless has (held room words reals).curves id }
-    ensures slots { value.new ≡ unless_refused result (carrier_fields ((held room words reals).curves.slot id)) (was value) }
-    ensures floats { floats.new ≡ unless_refused result (carrier_floats ((held room words reals).curves.slot id)) (was floats) }
+    ensures slots { value.new ≡ unless_refused result (carrier_fields ((held room words reals).curves.slot id)) value.old }
+    ensures floats { floats.new ≡ unless_refused result (carrier_floats ((held room words reals).curves.slot id)) floats.old }
 {
     match memory_lookups::curve(room, words, reals, id) {
         CarrierFound::Is(r) => {
@@ -207,8 +207,8 @@ pub fn surface(
     floats: &mut [f64; 6],
 ) -> u32
     ensures answer { result ≡ 9 unless lent readable room words reals then 2 unless has (held room words reals).surfaces id }
-    ensures slots { value.new ≡ unless_refused result (carrier_fields ((held room words reals).surfaces.slot id)) (was value) }
-    ensures floats { floats.new ≡ unless_refused result (carrier_floats ((held room words reals).surfaces.slot id)) (was floats) }
+    ensures slots { value.new ≡ unless_refused result (carrier_fields ((held room words reals).surfaces.slot id)) value.old }
+    ensures floats { floats.new ≡ unless_refused result (carrier_floats ((held room words reals).surfaces.slot id)) floats.old }
 {
     match memory_lookups::surface(room, words, reals, id) {
         CarrierFound::Is(r) => {

@@ -30,7 +30,7 @@ use walk_fin_ends::FinVertices;
 // The session precision.
 pub fn precision(room: &[usize; 10], words: &[u32], reals: &[f64], value: &mut [f64; 1]) -> u32
     ensures answer { result ≡ 9 unless lent readable room words reals }
-    ensures slots { value.new ≡ unless_refused result ((held room words reals).precision ∷ []) (was value) }
+    ensures slots { value.new ≡ unless_refused result ((held room words reals).precision ∷ []) value.old }
 {
     match memory_contains::precision(room, words, reals) {
         PrecisionFound::Is(p) => {
@@ -44,7 +44,7 @@ pub fn precision(room: &[usize; 10], words: &[u32], reals: &[f64], value: &mut [
 // The version.
 pub fn version(room: &[usize; 10], words: &[u32], reals: &[f64], value: &mut [u32; 1]) -> u32
     ensures answer { result ≡ 9 unless lent readable room words reals }
-    ensures slots { value.new ≡ unless_refused result (version_tag (held room words reals).version ∷ []) (was value) }
+    ensures slots { value.new ≡ unless_refused result (version_tag (held room words reals).version ∷ []) value.old }
 {
     match memory_contains::version(room, words, reals) {
         VersionFound::Is(v) => {
@@ -67,7 +67,7 @@ pub fn list_entry(
     value: &mut [u32; 1],
 ) -> u32
     ensures answer { result ≡ lent office_entry_number room words reals office j i place }
-    ensures slots { value.new ≡ unless_refused result (word (list_of (was room) (was words) j (record_for (held room words reals) office j i)) place ∷ []) (was value) }
+    ensures slots { value.new ≡ unless_refused result (word (list_of (was room) (was words) j (record_for (held room words reals) office j i)) place ∷ []) value.old }
 {
     match office_bodies::list_entry(room, words, reals, office, j, i, place) {
         Entry::Is(id) => {
@@ -89,7 +89,7 @@ pub fn contains(
     value: &mut [u32; 1],
 ) -> u32
     ensures answer { result ≡ lent by_office room words reals office (1 unless ltb class 8) }
-    ensures slots { value.new ≡ unless_refused result (mark (contained (held room words reals) (entity_for (held room words reals) office (entity_of class id))) ∷ []) (was value) }
+    ensures slots { value.new ≡ unless_refused result (mark (contained (held room words reals) (entity_for (held room words reals) office (entity_of class id))) ∷ []) value.old }
 {
     if 8 <= class {
         return unknown_tag(room, words, reals);
@@ -113,7 +113,7 @@ pub fn fin_vertices(
     value: &mut [u32; 4],
 ) -> u32
     ensures answer { result ≡ lent fin_vertices_number room words reals fin }
-    ensures slots { value.new ≡ unless_refused result (tips_value (seen_ends (ends_of (held room words reals) fin))) (was value) }
+    ensures slots { value.new ≡ unless_refused result (tips_value (seen_ends (ends_of (held room words reals) fin))) value.old }
 {
     match walk_fin_ends::fin_vertices(room, words, reals, fin) {
         FinVertices::Is(t) => {
@@ -133,7 +133,7 @@ pub fn bounds_of(
     value: &mut [f64; 2],
 ) -> u32
     ensures answer { result ≡ lent bounds_number room words reals edge }
-    ensures slots { value.new ≡ unless_refused result (range_value (held room words reals) edge) (was value) }
+    ensures slots { value.new ≡ unless_refused result (range_value (held room words reals) edge) value.old }
 {
     match edge_parameter_bounds(room, words, reals, edge) {
         Bounds::Is(r) => {

@@ -8,7 +8,7 @@ pub mod values;
 ghost use Rattle.std.specs.Prelude.{◌≡◌, [], ◌∷◌};
 ghost use Rattle.edit_tags.specs.Tags.{mark, ref_tag, ref_id};
 ghost use Rattle.edit_core.specs.declared.Inserted.TheVariants as Inserts;
-ghost use Rattle.c_lent.specs.Lent.{was, Crosses, alone};
+ghost use Rattle.c_lent.specs.Lent.{Crosses, alone};
 ghost use Rattle.c_values.specs.Crossing.{tips_value};
 
 use edit_core::Inserted;
@@ -46,7 +46,7 @@ pub fn mark_value(yes: bool) -> [u32; 1]
 
 // The id of a new record into its slot.
 pub fn put_id(answer: Inserted, id: &mut [u32; 1]) -> u32
-    ensures { Crosses Inserts.At Inserts.Refused alone answer result (was id) id.new }
+    ensures { Crosses Inserts.At Inserts.Refused alone answer result id.old id.new }
 {
     match answer {
         Inserted::At(i) => {

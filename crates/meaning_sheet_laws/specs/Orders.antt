@@ -5,7 +5,7 @@ use Rattle.std.proofs.Common.{arith, sym, ap, ap₂, ◌∙◌}
 use Rattle.std.proofs.Math.Logic.{∥∥₁_elim}
 use mathlib.Core.List.Perm
 use mathlib.Core.List.{List, [], ◌∷◌, filter_map, Perm, Permᴰ}
-use Rattle.std.proofs.Math.Option.{Option, none, some, Option·elim}
+use Rattle.std.proofs.Math.Option.{Option, none, some, Option-elim}
 use Rattle.std.proofs.Math.IntN.{+ℤ_assoc, +ℤ_comm, ℤ_set}
 use Rattle.meaning.specs.Model.{Model}
 use Rattle.meaning.specs.Offices.{body_for}
@@ -48,7 +48,7 @@ unfoldable asked_stone : Model → Ask → Option Stone
 asked_stone m a = stone_where (own_refusal m a.office a.body) (stone_of m (body_for m a.office a.body))
 
 taken-asked : (m : Model) (l : List Ask) (h : Sheet) → sheet_readable h ≡ true → h.stones + length l ≤ 65536 → taken_stones m l h ≡ filter_map (asked_stone m) l
-unfolding taken_stones asked_stone filter_map Option·elim
+unfolding taken_stones asked_stone filter_map Option-elim
 taken-asked m [] h r q = refl
 taken-asked m (a ∷ l) h r q =
     ap₂ (λ (n : ℕ) (k : List Stone). listed_where_taken n s k) (own-refusal m a.office a.body h r (omega arith))
@@ -58,7 +58,7 @@ taken-asked m (a ∷ l) h r q =
     s : Stone
     s = stone_of m (body_for m a.office a.body)
 
-    by : (n : ℕ) (k : List Stone) → listed_where_taken n s k ≡ Option·elim (stone_where n s) k (λ (t : Stone). t ∷ k)
+    by : (n : ℕ) (k : List Stone) → listed_where_taken n s k ≡ Option-elim (stone_where n s) k (λ (t : Stone). t ∷ k)
     by zero k = refl
     by (suc n) k = refl
 

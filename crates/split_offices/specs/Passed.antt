@@ -85,4 +85,4 @@ heard-passed room w x n f [] = refl
 heard-passed room w x n f (c ∷ l) =
     ap₂ (λ (i : ℕ) (k : List Cut). cond (leb c.office 1) (record { edge = i; fraction = c.fraction } ∷ k) k)
     (edge-heard room w x n f c.office c.edge c.fraction)
-    (heard-passed room _ _ _ (call-follows room w x n f c.office c.edge c.fraction) l)
+    (heard-passed room (office_split_words room w x c.office c.edge c.fraction) (office_split_reals room w x c.office c.edge c.fraction) (office_model_after (limits room) n c.office c.edge c.fraction) (call-follows room w x n f c.office c.edge c.fraction) l)

@@ -1,0 +1,9 @@
+-- `check_ends::sides::checked_from` meets its contract: by the case. Assumes nothing.
+use borrow.Author.Rules.{rules}
+use Rattle.check_ends.proofs.sides.checked_from.Goals as goal
+
+pub returns-in-None : goal.returns-in-None
+returns-in-None c = rw c.in-None.is
+
+pub returns-in-Is : goal.returns-in-Is
+returns-in-Is c = rw c.in-Is.is

@@ -1,0 +1,8 @@
+-- `edit_inserts::insert_region` meets its contract. Assumes nothing.
+use borrow.Author.Rules.{rules}
+use Rattle.edit_inserts.proofs.insert_region.Goals as goal
+
+pub returns : goal.returns
+returns c =
+    let f = c.region_fields-fields.ensures in
+    rw (← f) c.insert_fields.ensures

@@ -1,0 +1,10 @@
+-- `memory_layout::layout::reals_needed` meets its contract. Assumes nothing.
+use Rattle.memory_layout.specs.Laws.{reals-strides}
+use borrow.Author.Rules.{rules}
+use Rattle.memory_layout.proofs.layout.reals_needed.Goals as goal
+
+pub base-requires : goal.base-requires
+base-requires c = record { small = c.requires; strides = reals-strides; from_bound = search rules }
+
+pub returns : goal.returns
+returns c = c.base.ensures

@@ -1,0 +1,7 @@
+-- `mend_tests::followed` meets its contract. Assumes nothing.
+use borrow.Author.Rules.{rules}
+use mathlib.Core.Path.{refl}
+use Rattle.mend_tests.proofs.followed.Goals as goal
+
+pub returns : goal.returns
+returns c = refl

@@ -1,0 +1,15 @@
+-- `office_bodies::body` meets its contract. Assumes nothing.
+use mathlib.Core.Path.{◌∙◌}
+use borrow.Author.Rules.{rules}
+use Rattle.office_bodies.specs.Laws.{body-there, body-above}
+use Rattle.office_bodies.proofs.body.Goals as goal
+
+pub returns-then-office-gt1 : goal.returns-then-office-gt1
+returns-then-office-gt1 c =
+    let s = c in
+    body-above s.args.room.now s.args.words.now s.args.reals.now s.args.office c.unknown_tag.result c.if-office-gt1.true c.unknown_tag.ensures s.args.id
+
+pub returns : goal.returns
+returns c =
+    let s = c in
+    c.body.ensures ∙ body-there s.args.room.now s.args.words.now s.args.reals.now s.args.office c.if-office-gt1.false s.args.id _ (c.body_for.ensures s.args.room.now s.args.reals.now)

@@ -1,0 +1,7 @@
+-- `slab_axes::then` meets its contract. Assumes nothing.
+use Rattle.split_segment.specs.Laws.{refuses}
+use borrow.Author.Rules.{rules}
+use Rattle.slab_axes.proofs.then.Goals as goal
+
+pub returns-then-a-ne0 : goal.returns-then-a-ne0
+returns-then-a-ne0 c = refuses _ _ c.if-a-ne0.true

@@ -1,0 +1,8 @@
+-- `split_bounds::ends::point_at` meets its contract. Assumes nothing.
+use Rattle.memory_records.specs.Seen.{seen_vertex}
+use borrow.Author.Rules.{rules}
+use Rattle.split_bounds.proofs.ends.point_at.Goals as goal
+
+pub returns : goal.returns
+unfolding seen_vertex
+returns c = rw c.vertex_at.ensures

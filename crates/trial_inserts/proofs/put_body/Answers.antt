@@ -1,0 +1,18 @@
+-- `trial_inserts::put_body` ends: fewer turns are left at each. Assumes nothing.
+use Prim.Native.Nat.{◌≤◌, ◌-◌}
+use native.Mathlib.Omega.{arith}
+use borrow.Author.Rules.{rules}
+use Rattle.edit_inserts.proofs.insert_body.Reads as insert-body-reads
+use Rattle.edit_inserts.proofs.insert_region.Reads as insert-region-reads
+use Rattle.edit_inserts.proofs.insert_shell.Reads as insert-shell-reads
+use Rattle.edit_lists.proofs.append_entry.Reads as append-entry-reads
+use Rattle.trial_inserts.proofs.put_body.Goals as goal
+
+pub loop-i-init : goal.loop-i-init
+loop-i-init c = omega arith
+
+pub loop-i-smaller : goal.loop-i-smaller
+loop-i-smaller c = omega arith
+
+pub loop-i-preserved : goal.loop-i-preserved
+loop-i-preserved c = omega arith
