@@ -11,7 +11,7 @@ use course_stones::CourseSum;
 
 fn put_sum(s: CourseSum, value: &mut [u64; 3]) -> u32
     ensures answer { result ≡ s.refused }
-    ensures slots { value.new ≡ unless_refused s.refused (sum_slots s) (was value) }
+    ensures slots { value.new ≡ unless_refused s.refused (sum_slots s) value.old }
 {
     if s.refused != 0 {
         return s.refused;
@@ -31,9 +31,9 @@ pub fn course_total(
     faces: &mut [u8],
     value: &mut [u64; 3],
 ) -> u32
-    ensures answer { result ≡ lent course_number room words reals office (was courses) course (was faces) }
-    ensures slots { value.new ≡ unless_refused result (lent course_slots room words reals office (was courses) course) (was value) }
-    ensures faces { faces.new ≡ replicate (length (was faces)) 0 }
+    ensures answer { result ≡ lent course_number room words reals office (was courses) course faces.old }
+    ensures slots { value.new ≡ unless_refused result (lent course_slots room words reals office (was courses) course) value.old }
+    ensures faces { faces.new ≡ replicate (length faces.old) 0 }
 {
     put_sum(
         office_courses::course_total(room, words, reals, office, courses, course, faces),

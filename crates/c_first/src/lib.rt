@@ -8,7 +8,7 @@ ghost use Rattle.check_report.specs.Calls.{asked, told};
 ghost use Rattle.check_report.specs.declared.FirstFault.TheVariants as Firsts;
 ghost use Rattle.office_measures.specs.Answers.{office_check_number};
 ghost use Rattle.meaning.specs.Offices.{body_for};
-ghost use Rattle.c_lent.specs.Lent.{was, lent, held, Crosses};
+ghost use Rattle.c_lent.specs.Lent.{lent, held, Crosses};
 ghost use Rattle.c_answers.specs.Values.{wanted};
 ghost use Rattle.c_first.specs.Slots.{found_value, first_value};
 
@@ -23,7 +23,7 @@ fn fault_value(f: FaultFound) -> [u32; 5]
 }
 
 fn put_first(answer: FirstFault, value: &mut [u32; 5]) -> u32
-    ensures { Crosses told Firsts.Refused found_value answer result (was value) value.new }
+    ensures { Crosses told Firsts.Refused found_value answer result value.old value.new }
 {
     match answer {
         FirstFault::None => {
@@ -51,10 +51,10 @@ pub fn first_of(
     edges: &mut [u8],
     value: &mut [u32; 5],
 ) -> u32
-    ensures answer { result ≡ lent office_check_number room words reals office body (asked (wanted geometry) samples) (was faces) (was edges) }
-    ensures slots { value.new ≡ unless_refused result (lent first_value room words reals (body_for (held room words reals) office body) (asked (wanted geometry) samples)) (was value) }
-    ensures faces { faces.new ≡ replicate (length (was faces)) 0 }
-    ensures edges { edges.new ≡ replicate (length (was edges)) 0 }
+    ensures answer { result ≡ lent office_check_number room words reals office body (asked (wanted geometry) samples) faces.old edges.old }
+    ensures slots { value.new ≡ unless_refused result (lent first_value room words reals (body_for (held room words reals) office body) (asked (wanted geometry) samples)) value.old }
+    ensures faces { faces.new ≡ replicate (length faces.old) 0 }
+    ensures edges { edges.new ≡ replicate (length edges.old) 0 }
 {
     let answer = first_fault(
         room,

@@ -11,7 +11,7 @@ ghost use Rattle.check_report.specs.Calls.{asked};
 ghost use Rattle.office_measures.specs.Answers.{office_box_number, office_volume_number, office_check_number, office_faults};
 ghost use Rattle.split_place.specs.SplitNumber.{office_split_number};
 ghost use Rattle.split_edge.specs.After.{office_split_words, office_split_reals};
-ghost use Rattle.c_lent.specs.Lent.{was, lent, held};
+ghost use Rattle.c_lent.specs.Lent.{lent, held};
 ghost use Rattle.c_answers.specs.Values.{wanted};
 ghost use Rattle.c_measures.specs.Measures.{box_value, volume_value, report_value, fit_value};
 
@@ -31,11 +31,11 @@ pub fn box_of(
     vertices: &mut [u8],
     value: &mut [f64; 6],
 ) -> u32
-    ensures answer { result ≡ lent office_box_number room words reals office body (was faces) (was edges) (was vertices) }
-    ensures slots { value.new ≡ unless_refused result (box_value (held room words reals) (body_for (held room words reals) office body)) (was value) }
-    ensures faces { faces.new ≡ replicate (length (was faces)) 0 }
-    ensures edges { edges.new ≡ replicate (length (was edges)) 0 }
-    ensures vertices { vertices.new ≡ replicate (length (was vertices)) 0 }
+    ensures answer { result ≡ lent office_box_number room words reals office body faces.old edges.old vertices.old }
+    ensures slots { value.new ≡ unless_refused result (box_value (held room words reals) (body_for (held room words reals) office body)) value.old }
+    ensures faces { faces.new ≡ replicate (length faces.old) 0 }
+    ensures edges { edges.new ≡ replicate (length edges.old) 0 }
+    ensures vertices { vertices.new ≡ replicate (length vertices.old) 0 }
 {
     let answer = body_bounding_box(room, words, reals, office, body, faces, edges, vertices);
     put_box(answer, value)
@@ -50,9 +50,9 @@ pub fn volume_of(
     faces: &mut [u8],
     value: &mut [f64; 1],
 ) -> u32
-    ensures answer { result ≡ lent office_volume_number room words reals office body (was faces) }
-    ensures slots { value.new ≡ unless_refused result (volume_value (held room words reals) (body_for (held room words reals) office body)) (was value) }
-    ensures faces { faces.new ≡ replicate (length (was faces)) 0 }
+    ensures answer { result ≡ lent office_volume_number room words reals office body faces.old }
+    ensures slots { value.new ≡ unless_refused result (volume_value (held room words reals) (body_for (held room words reals) office body)) value.old }
+    ensures faces { faces.new ≡ replicate (length faces.old) 0 }
 {
     let answer = body_volume(room, words, reals, office, body, faces);
     put_volume(answer, value)
@@ -68,10 +68,10 @@ pub fn split_of(
     fraction: f64,
     value: &mut [u32; 3],
 ) -> u32
-    ensures answer { result ≡ lent office_split_number room words reals office edge fraction }
-    ensures slots { value.new ≡ unless_refused result (edge ∷ word (was words) EDGES ∷ word (was words) VERTICES ∷ []) (was value) }
-    ensures tables { words.new ≡ lent office_split_words room words reals office edge fraction }
-    ensures floats { reals.new ≡ lent office_split_reals room words reals office edge fraction }
+    ensures answer { result ≡ office_split_number room.now words.old reals.old office edge fraction }
+    ensures slots { value.new ≡ unless_refused result (edge ∷ word words.old EDGES ∷ word words.old VERTICES ∷ []) value.old }
+    ensures tables { words.new ≡ office_split_words room.now words.old reals.old office edge fraction }
+    ensures floats { reals.new ≡ office_split_reals room.now words.old reals.old office edge fraction }
 {
     let answer = split_line_edge(room, words, reals, office, edge, fraction);
     put_split(answer, value)
@@ -91,11 +91,11 @@ pub fn report_of(
     nums: &mut [u32],
     value: &mut [usize; 3],
 ) -> u32
-    ensures answer { result ≡ lent office_check_number room words reals office body (asked (wanted geometry) samples) (was faces) (was edges) }
-    ensures slots { value.new ≡ unless_refused result (lent report_value room words reals (body_for (held room words reals) office body) (asked (wanted geometry) samples) (was nums)) (was value) }
-    ensures list { nums.new ≡ lent office_faults room words reals office body (asked (wanted geometry) samples) (was faces) (was edges) (was nums) }
-    ensures faces { faces.new ≡ replicate (length (was faces)) 0 }
-    ensures edges { edges.new ≡ replicate (length (was edges)) 0 }
+    ensures answer { result ≡ lent office_check_number room words reals office body (asked (wanted geometry) samples) faces.old edges.old }
+    ensures slots { value.new ≡ unless_refused result (lent report_value room words reals (body_for (held room words reals) office body) (asked (wanted geometry) samples) nums.old) value.old }
+    ensures list { nums.new ≡ lent office_faults room words reals office body (asked (wanted geometry) samples) faces.old edges.old nums.old }
+    ensures faces { faces.new ≡ replicate (length faces.old) 0 }
+    ensures edges { edges.new ≡ replicate (length edges.old) 0 }
 {
     let answer = check_body(
         room,
@@ -123,10 +123,10 @@ pub fn fit_of(
     edges: &mut [u8],
     value: &mut [u32; 1],
 ) -> u32
-    ensures answer { result ≡ lent office_check_number room words reals office body sawing (was faces) (was edges) }
-    ensures slots { value.new ≡ unless_refused result (fit_value (held room words reals) (body_for (held room words reals) office body)) (was value) }
-    ensures faces { faces.new ≡ replicate (length (was faces)) 0 }
-    ensures edges { edges.new ≡ replicate (length (was edges)) 0 }
+    ensures answer { result ≡ lent office_check_number room words reals office body sawing faces.old edges.old }
+    ensures slots { value.new ≡ unless_refused result (fit_value (held room words reals) (body_for (held room words reals) office body)) value.old }
+    ensures faces { faces.new ≡ replicate (length faces.old) 0 }
+    ensures edges { edges.new ≡ replicate (length edges.old) 0 }
 {
     let answer = fit_to_saw(room, words, reals, office, body, faces, edges);
     put_fit(answer, value)

@@ -4,13 +4,13 @@
 ghost use Rattle.std.specs.Prelude.{◌≡◌, length, replicate};
 ghost use Rattle.memory_writes.specs.Put.{unless_refused};
 ghost use Rattle.office_mends.specs.Answers.{office_mend_number, office_mend_count, office_mend_list, office_mend_words};
-ghost use Rattle.c_lent.specs.Lent.{was, lent, alone};
+ghost use Rattle.c_lent.specs.Lent.{lent, alone};
 
 use mend_body::Mending;
 
 fn put_count(r: Mending, value: &mut [usize; 1]) -> u32
     ensures value { result ≡ r.refused }
-    ensures value_after { value.new ≡ unless_refused result (alone r.changes) (was value) }
+    ensures value_after { value.new ≡ unless_refused result (alone r.changes) value.old }
 {
     if r.refused != 0 {
         return r.refused;
@@ -30,10 +30,10 @@ pub fn mend_changes(
     nums: &mut [u32],
     value: &mut [usize; 1],
 ) -> u32
-    ensures answer { result ≡ lent office_mend_number room words reals office body (was marks) (was nums) }
-    ensures slots { value.new ≡ unless_refused result (alone (lent office_mend_count room words reals office body (was marks) (was nums))) (was value) }
-    ensures list { nums.new ≡ lent office_mend_list room words reals office body (was marks) (was nums) }
-    ensures marks { marks.new ≡ replicate (length (was marks)) 0 }
+    ensures answer { result ≡ lent office_mend_number room words reals office body marks.old nums.old }
+    ensures slots { value.new ≡ unless_refused result (alone (lent office_mend_count room words reals office body marks.old nums.old)) value.old }
+    ensures list { nums.new ≡ lent office_mend_list room words reals office body marks.old nums.old }
+    ensures marks { marks.new ≡ replicate (length marks.old) 0 }
 {
     put_count(
         office_mends::mend_changes(room, words, reals, office, body, marks, nums),
@@ -52,11 +52,11 @@ pub fn mend(
     nums: &mut [u32],
     value: &mut [usize; 1],
 ) -> u32
-    ensures answer { result ≡ lent office_mend_number room words reals office body (was marks) (was nums) }
-    ensures slots { value.new ≡ unless_refused result (alone (lent office_mend_count room words reals office body (was marks) (was nums))) (was value) }
-    ensures list { nums.new ≡ lent office_mend_list room words reals office body (was marks) (was nums) }
-    ensures tables { words.new ≡ lent office_mend_words room words reals office body (was marks) (was nums) }
-    ensures marks { marks.new ≡ replicate (length (was marks)) 0 }
+    ensures answer { result ≡ office_mend_number room.now words.old reals.now office body marks.old nums.old }
+    ensures slots { value.new ≡ unless_refused result (alone (office_mend_count room.now words.old reals.now office body marks.old nums.old)) value.old }
+    ensures list { nums.new ≡ office_mend_list room.now words.old reals.now office body marks.old nums.old }
+    ensures tables { words.new ≡ office_mend_words room.now words.old reals.now office body marks.old nums.old }
+    ensures marks { marks.new ≡ replicate (length marks.old) 0 }
 {
     put_count(
         office_mends::mend(room, words, reals, office, body, marks, nums),

@@ -1,10 +1,11 @@
 // Inner: other fields in a record, as a C program's numbers; its lists are kept. A tag that is none gives 1, right after 9.
 #![tactic(auto)]
 
+ghost use Rattle.memory_layout.specs.Decode.{decode};
 ghost use Rattle.std.specs.Prelude.{◌≡◌, true, []};
 ghost use Rattle.edit_core.specs.Answers.{edit_number, edit_words, edit_reals};
 ghost use Rattle.meaning.specs.Offices.{body_for};
-ghost use Rattle.c_lent.specs.Lent.{was, lent, held};
+ghost use Rattle.c_lent.specs.Lent.{was};
 ghost use Rattle.c_values.specs.Given.{body_in, region_known, carrier_known, edge_good, vertex_good, kind_given, region_given, shell_given, loop_given, edge_given, vertex_given, carrier_given, edge_own, vertex_own, carrier_own, face_known, fin_known, face_given, fin_given};
 ghost use Rattle.memory_layout.specs.Names.{BODIES, REGIONS, SHELLS, LOOPS, EDGES, VERTICES, CURVES, SURFACES, FACES, FINS};
 
@@ -31,9 +32,9 @@ pub fn face(
     id: usize,
     value: &[u32; 7],
 ) -> u32
-    ensures answer { result ≡ lent edit_number room words reals (face_known (was value)) FACES id }
-    ensures tables { words.new ≡ lent edit_words room words reals (face_known (was value)) FACES id 0 (face_given (was value)) }
-    ensures floats { reals.new ≡ lent edit_reals room words reals (face_known (was value)) FACES id [] }
+    ensures answer { result ≡ edit_number room.now words.old reals.old (face_known (was value)) FACES id }
+    ensures tables { words.new ≡ edit_words room.now words.old reals.old (face_known (was value)) FACES id 0 (face_given (was value)) }
+    ensures floats { reals.new ≡ edit_reals room.now words.old reals.old (face_known (was value)) FACES id [] }
 {
     if !face_known(value) {
         return unknown_tag(room, &words[..], &reals[..]);
@@ -52,9 +53,9 @@ pub fn fin(
     id: usize,
     value: &[u32; 4],
 ) -> u32
-    ensures answer { result ≡ lent edit_number room words reals (fin_known (was value)) FINS id }
-    ensures tables { words.new ≡ lent edit_words room words reals (fin_known (was value)) FINS id 0 (fin_given (was value)) }
-    ensures floats { reals.new ≡ lent edit_reals room words reals (fin_known (was value)) FINS id [] }
+    ensures answer { result ≡ edit_number room.now words.old reals.old (fin_known (was value)) FINS id }
+    ensures tables { words.new ≡ edit_words room.now words.old reals.old (fin_known (was value)) FINS id 0 (fin_given (was value)) }
+    ensures floats { reals.new ≡ edit_reals room.now words.old reals.old (fin_known (was value)) FINS id [] }
 {
     if !fin_known(value) {
         return unknown_tag(room, &words[..], &reals[..]);
@@ -80,9 +81,9 @@ pub fn body(
     id: usize,
     value: &[u32; 1],
 ) -> u32
-    ensures answer { result ≡ lent edit_number room words reals (body_in office (was value)) BODIES (body_for (held room words reals) office id) }
-    ensures tables { words.new ≡ lent edit_words room words reals (body_in office (was value)) BODIES (body_for (held room words reals) office id) 0 (kind_given (was value)) }
-    ensures floats { reals.new ≡ lent edit_reals room words reals (body_in office (was value)) BODIES (body_for (held room words reals) office id) [] }
+    ensures answer { result ≡ edit_number room.now words.old reals.old (body_in office (was value)) BODIES (body_for (decode room.now words.old reals.old) office id) }
+    ensures tables { words.new ≡ edit_words room.now words.old reals.old (body_in office (was value)) BODIES (body_for (decode room.now words.old reals.old) office id) 0 (kind_given (was value)) }
+    ensures floats { reals.new ≡ edit_reals room.now words.old reals.old (body_in office (was value)) BODIES (body_for (decode room.now words.old reals.old) office id) [] }
 {
     if !body_known(value) {
         return unknown_tag(room, &words[..], &reals[..]);
@@ -98,9 +99,9 @@ pub fn region(
     id: usize,
     value: &[u32; 2],
 ) -> u32
-    ensures answer { result ≡ lent edit_number room words reals (region_known (was value)) REGIONS id }
-    ensures tables { words.new ≡ lent edit_words room words reals (region_known (was value)) REGIONS id 0 (region_given (was value)) }
-    ensures floats { reals.new ≡ lent edit_reals room words reals (region_known (was value)) REGIONS id [] }
+    ensures answer { result ≡ edit_number room.now words.old reals.old (region_known (was value)) REGIONS id }
+    ensures tables { words.new ≡ edit_words room.now words.old reals.old (region_known (was value)) REGIONS id 0 (region_given (was value)) }
+    ensures floats { reals.new ≡ edit_reals room.now words.old reals.old (region_known (was value)) REGIONS id [] }
 {
     if !region_known(value) {
         return unknown_tag(room, &words[..], &reals[..]);
@@ -122,9 +123,9 @@ pub fn shell(
     id: usize,
     value: &[u32; 1],
 ) -> u32
-    ensures answer { result ≡ lent edit_number room words reals true SHELLS id }
-    ensures tables { words.new ≡ lent edit_words room words reals true SHELLS id 0 (shell_given (was value)) }
-    ensures floats { reals.new ≡ lent edit_reals room words reals true SHELLS id [] }
+    ensures answer { result ≡ edit_number room.now words.old reals.old true SHELLS id }
+    ensures tables { words.new ≡ edit_words room.now words.old reals.old true SHELLS id 0 (shell_given (was value)) }
+    ensures floats { reals.new ≡ edit_reals room.now words.old reals.old true SHELLS id [] }
 {
     set_shell(room, words, reals, id, value[AT_SHELL_REGION])
 }
@@ -136,9 +137,9 @@ pub fn loop_(
     id: usize,
     value: &[u32; 1],
 ) -> u32
-    ensures answer { result ≡ lent edit_number room words reals true LOOPS id }
-    ensures tables { words.new ≡ lent edit_words room words reals true LOOPS id 0 (loop_given (was value)) }
-    ensures floats { reals.new ≡ lent edit_reals room words reals true LOOPS id [] }
+    ensures answer { result ≡ edit_number room.now words.old reals.old true LOOPS id }
+    ensures tables { words.new ≡ edit_words room.now words.old reals.old true LOOPS id 0 (loop_given (was value)) }
+    ensures floats { reals.new ≡ edit_reals room.now words.old reals.old true LOOPS id [] }
 {
     set_loop(room, words, reals, id, value[AT_LOOP_FACE])
 }
@@ -151,9 +152,9 @@ pub fn edge(
     value: &[u32; 7],
     floats: &[f64; 1],
 ) -> u32
-    ensures answer { result ≡ lent edit_number room words reals (edge_good (was value) (was floats)) EDGES id }
-    ensures tables { words.new ≡ lent edit_words room words reals (edge_good (was value) (was floats)) EDGES id 0 (edge_given (was value) (was floats)) }
-    ensures floats { reals.new ≡ lent edit_reals room words reals (edge_good (was value) (was floats)) EDGES id (edge_own (was value) (was floats)) }
+    ensures answer { result ≡ edit_number room.now words.old reals.old (edge_good (was value) (was floats)) EDGES id }
+    ensures tables { words.new ≡ edit_words room.now words.old reals.old (edge_good (was value) (was floats)) EDGES id 0 (edge_given (was value) (was floats)) }
+    ensures floats { reals.new ≡ edit_reals room.now words.old reals.old (edge_good (was value) (was floats)) EDGES id (edge_own (was value) (was floats)) }
 {
     if !face_known(value) {
         return unknown_tag(room, &words[..], &reals[..]);
@@ -173,9 +174,9 @@ pub fn vertex(
     value: &[u32; 1],
     floats: &[f64; 4],
 ) -> u32
-    ensures answer { result ≡ lent edit_number room words reals (vertex_good (was value) (was floats)) VERTICES id }
-    ensures tables { words.new ≡ lent edit_words room words reals (vertex_good (was value) (was floats)) VERTICES id 0 (vertex_given (was value) (was floats)) }
-    ensures floats { reals.new ≡ lent edit_reals room words reals (vertex_good (was value) (was floats)) VERTICES id (vertex_own (was value) (was floats)) }
+    ensures answer { result ≡ edit_number room.now words.old reals.old (vertex_good (was value) (was floats)) VERTICES id }
+    ensures tables { words.new ≡ edit_words room.now words.old reals.old (vertex_good (was value) (was floats)) VERTICES id 0 (vertex_given (was value) (was floats)) }
+    ensures floats { reals.new ≡ edit_reals room.now words.old reals.old (vertex_good (was value) (was floats)) VERTICES id (vertex_own (was value) (was floats)) }
 {
     if !own_known(value) {
         return unknown_tag(room, &words[..], &reals[..]);
@@ -193,9 +194,9 @@ pub fn curve(
     value: &[u32; 1],
     floats: &[f64; 6],
 ) -> u32
-    ensures answer { result ≡ lent edit_number room words reals (carrier_known (was value)) CURVES id }
-    ensures tables { words.new ≡ lent edit_words room words reals (carrier_known (was value)) CURVES id 0 (carrier_given (was value) (was floats)) }
-    ensures floats { reals.new ≡ lent edit_reals room words reals (carrier_known (was value)) CURVES id (carrier_own (was value) (was floats)) }
+    ensures answer { result ≡ edit_number room.now words.old reals.old (carrier_known (was value)) CURVES id }
+    ensures tables { words.new ≡ edit_words room.now words.old reals.old (carrier_known (was value)) CURVES id 0 (carrier_given (was value) (was floats)) }
+    ensures floats { reals.new ≡ edit_reals room.now words.old reals.old (carrier_known (was value)) CURVES id (carrier_own (was value) (was floats)) }
 {
     if !carrier_known(value) {
         return unknown_tag(room, &words[..], &reals[..]);
@@ -212,9 +213,9 @@ pub fn surface(
     value: &[u32; 1],
     floats: &[f64; 6],
 ) -> u32
-    ensures answer { result ≡ lent edit_number room words reals (carrier_known (was value)) SURFACES id }
-    ensures tables { words.new ≡ lent edit_words room words reals (carrier_known (was value)) SURFACES id 0 (carrier_given (was value) (was floats)) }
-    ensures floats { reals.new ≡ lent edit_reals room words reals (carrier_known (was value)) SURFACES id (carrier_own (was value) (was floats)) }
+    ensures answer { result ≡ edit_number room.now words.old reals.old (carrier_known (was value)) SURFACES id }
+    ensures tables { words.new ≡ edit_words room.now words.old reals.old (carrier_known (was value)) SURFACES id 0 (carrier_given (was value) (was floats)) }
+    ensures floats { reals.new ≡ edit_reals room.now words.old reals.old (carrier_known (was value)) SURFACES id (carrier_own (was value) (was floats)) }
 {
     if !carrier_known(value) {
         return unknown_tag(room, &words[..], &reals[..]);

@@ -1,6 +1,5 @@
 // For callers: `faults_fill`, the fault entries as a list of structs that the caller lends (01, "The fault entries lie in a list that the caller
-// lends"), thin functions over what the core left in plain numbers, four to a fault. No function with a reference to a struct in it is covered by the
-// borrow checker: `write` and `faults_fill` are proved by a walk of their code, by hand, and do nothing else. Inner: `told_at` and `write`.
+// lends"), thin functions over what the core left in plain numbers, four to a fault. Inner: `told_at` and `write`.
 #![tactic(auto)]
 
 ghost use Rattle.std.specs.Prelude.{◌≡◌, ◌≤◌, ◌+◌, ◌*◌, ◌/◌, min, length};

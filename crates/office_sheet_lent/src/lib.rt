@@ -1,5 +1,4 @@
-// For callers: `take`, a body taken in on a stone sheet that the caller lends (W-201), a thin function over `office_sheets`, which has the sheet by value. No function with a
-// reference to a struct in it is covered by the borrow checker: `take` is proved by a walk of its code, by hand, and does nothing else.
+// For callers: `take`, a body taken in on a stone sheet that the caller lends (W-201), a thin function over `office_sheets`, which has the sheet by value.
 #![tactic(auto)]
 
 ghost use Rattle.std.specs.Prelude.{◌≡◌, length, replicate};

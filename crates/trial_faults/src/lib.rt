@@ -1,5 +1,4 @@
-// Inner: the faults that plain numbers tell, as structs by value. A list of four is lent to `faults_fill`. A function with a reference to a struct in it is
-// proved by a walk of its code, by hand, so `entries` does nothing else.
+// Inner: the faults that plain numbers tell, as structs by value. A list of four is lent to `faults_fill`.
 #![tactic(auto)]
 
 ghost use Rattle.std.specs.Prelude.{◌≡◌, ◌/◌, min, length, replicate};

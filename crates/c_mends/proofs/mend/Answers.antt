@@ -1,0 +1,21 @@
+-- `c_mends::mend` meets its contract. Assumes nothing.
+use native.Mathlib.Omega.{arith}
+use mathlib.Core.Path.{ap, ◌∙◌}
+use Rattle.memory_writes.specs.Put.{unless_refused}
+use Rattle.c_lent.specs.Lent.{alone}
+use Rattle.office_mends.specs.Laws.{list-as-long, words-as-long}
+use borrow.Author.Rules.{rules}
+use Rattle.c_mends.proofs.mend.Goals as goal
+
+pub shape_of-words : goal.shape_of-words
+shape_of-words c = let s = c in omega (arith, words-as-long s.args.room.now s.args.words.now s.args.reals.now s.args.office s.args.body s.args.marks.now s.args.nums.now _ c.mend.ensures.tables)
+
+pub shape_of-nums : goal.shape_of-nums
+shape_of-nums c = let s = c in omega (arith, list-as-long s.args.room.now s.args.words.now s.args.reals.now s.args.office s.args.body s.args.marks.now s.args.nums.now _ c.mend.ensures.list)
+
+pub returns : goal.returns
+returns c =
+    let s = c in
+    let r = c.mend.ensures in
+    let p = c.put_count.ensures in
+    record { answer = p.value ∙ r.refused; slots = p.value_after ∙ ap (λ k. unless_refused c.put_count.result (alone k) s.args.value.now) r.changes; list = r.list; tables = r.tables; marks = r.marks }

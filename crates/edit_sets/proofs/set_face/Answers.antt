@@ -1,0 +1,8 @@
+-- `edit_sets::set_face` meets its contract. Assumes nothing.
+use borrow.Author.Rules.{rules}
+use Rattle.edit_sets.proofs.set_face.Goals as goal
+
+pub returns : goal.returns
+returns c =
+    let f = c.face_fields-fields.ensures in
+    rw (← f) c.set_fields.ensures
