@@ -6,13 +6,13 @@ ghost use Rattle.memory_writes.specs.Put.{unless_refused};
 ghost use Rattle.slab_profile.specs.declared.Profile.TheVariants.{Refused};
 ghost use Rattle.slab_profile.specs.Answers.{told};
 ghost use Rattle.office_slabs.specs.Answers.{profile_asked, office_profile_number, office_areas};
-ghost use Rattle.c_lent.specs.Lent.{was, lent, Crosses};
+ghost use Rattle.c_lent.specs.Lent.{lent, Crosses};
 ghost use Rattle.c_slabs.specs.Slots.{profile_value};
 
 use slab_profile::Profile;
 
 fn put_profile(answer: Profile, value: &mut [u64; 3]) -> u32
-    ensures { Crosses told Refused profile_value answer result (was value) value.new }
+    ensures { Crosses told Refused profile_value answer result value.old value.new }
 {
     match answer {
         Profile::Accepted(n) => {
@@ -39,11 +39,11 @@ pub fn profile_of(
     areas: &mut [u64],
     value: &mut [u64; 3],
 ) -> u32
-    ensures answer { result ≡ lent office_profile_number room words reals office body (was faces) (was edges) (was areas) }
-    ensures slots { value.new ≡ unless_refused result (profile_value (lent profile_asked room words reals office body)) (was value) }
-    ensures areas { areas.new ≡ lent office_areas room words reals office body (was faces) (was edges) (was areas) }
-    ensures faces { faces.new ≡ replicate (length (was faces)) 0 }
-    ensures edges { edges.new ≡ replicate (length (was edges)) 0 }
+    ensures answer { result ≡ lent office_profile_number room words reals office body faces.old edges.old areas.old }
+    ensures slots { value.new ≡ unless_refused result (profile_value (lent profile_asked room words reals office body)) value.old }
+    ensures areas { areas.new ≡ lent office_areas room words reals office body faces.old edges.old areas.old }
+    ensures faces { faces.new ≡ replicate (length faces.old) 0 }
+    ensures edges { edges.new ≡ replicate (length edges.old) 0 }
 {
     let answer = office_slabs::body_profile(room, words, reals, office, body, faces, edges, areas);
     put_profile(answer, value)

@@ -15,7 +15,7 @@ use c_values::put_id;
 use stl_writer::StlLength;
 
 fn put_length(answer: StlLength, value: &mut [usize; 1]) -> u32
-    ensures { Crosses Is Refused alone answer result (was value) value.new }
+    ensures { Crosses Is Refused alone answer result value.old value.new }
 {
     match answer {
         StlLength::Is(n) => {
@@ -36,9 +36,9 @@ pub fn stl_length(
     faces: &mut [u8],
     value: &mut [usize; 1],
 ) -> u32
-    ensures answer { result ≡ lent office_length_number room words reals office body (was faces) }
-    ensures slots { value.new ≡ unless_refused result (alone (length (lent stl_asked room words reals office body))) (was value) }
-    ensures faces { faces.new ≡ replicate (length (was faces)) 0 }
+    ensures answer { result ≡ lent office_length_number room words reals office body faces.old }
+    ensures slots { value.new ≡ unless_refused result (alone (length (lent stl_asked room words reals office body))) value.old }
+    ensures faces { faces.new ≡ replicate (length faces.old) 0 }
 {
     put_length(
         office_stl::body_stl_length(room, words, reals, office, body, faces),
@@ -57,10 +57,10 @@ pub fn write_stl(
     bytes: &mut [u8],
     value: &mut [usize; 1],
 ) -> u32
-    ensures answer { result ≡ lent office_write_number room words reals office body (was faces) (was bytes) }
-    ensures slots { value.new ≡ unless_refused result (alone (length (lent stl_asked room words reals office body))) (was value) }
-    ensures bytes { bytes.new ≡ lent office_written room words reals office body (was faces) (was bytes) }
-    ensures faces { faces.new ≡ replicate (length (was faces)) 0 }
+    ensures answer { result ≡ lent office_write_number room words reals office body faces.old bytes.old }
+    ensures slots { value.new ≡ unless_refused result (alone (length (lent stl_asked room words reals office body))) value.old }
+    ensures bytes { bytes.new ≡ lent office_written room words reals office body faces.old bytes.old }
+    ensures faces { faces.new ≡ replicate (length faces.old) 0 }
 {
     put_length(
         office_stl::body_stl(room, words, reals, office, body, faces, bytes),
@@ -77,10 +77,10 @@ pub fn read_stl(
     bytes: &[u8],
     id: &mut [u32; 1],
 ) -> u32
-    ensures answer { result ≡ lent read_stl_number room words reals office (was bytes) }
-    ensures slots { id.new ≡ unless_refused result (word (was words) BODIES ∷ []) (was id) }
-    ensures tables { words.new ≡ lent read_stl_words room words reals office (was bytes) }
-    ensures floats { reals.new ≡ lent read_stl_reals room words reals office (was bytes) }
+    ensures answer { result ≡ read_stl_number room.now words.old reals.old office (was bytes) }
+    ensures slots { id.new ≡ unless_refused result (word words.old BODIES ∷ []) id.old }
+    ensures tables { words.new ≡ read_stl_words room.now words.old reals.old office (was bytes) }
+    ensures floats { reals.new ≡ read_stl_reals room.now words.old reals.old office (was bytes) }
 {
     put_id(stl_reader::read_stl(room, words, reals, office, bytes), id)
 }

@@ -10,8 +10,8 @@ ghost use Rattle.c_courses.specs.Slots.{course_slots};
 // An empty course table.
 #[unsafe(no_mangle)]
 pub extern "C" fn brunskerl_make_courses(courses: &mut [u32]) -> u32
-    ensures answer { result ≡ make_number (was courses) }
-    ensures table { courses.new ≡ made_words (was courses) }
+    ensures answer { result ≡ make_number courses.old }
+    ensures table { courses.new ≡ made_words courses.old }
 {
     course_edits::make_courses(courses)
 }
@@ -19,9 +19,9 @@ pub extern "C" fn brunskerl_make_courses(courses: &mut [u32]) -> u32
 // An empty course more, and its id.
 #[unsafe(no_mangle)]
 pub extern "C" fn brunskerl_insert_course(courses: &mut [u32], value: &mut [u32; 1]) -> u32
-    ensures answer { result ≡ insert_number (was courses) }
-    ensures table { courses.new ≡ inserted_words (was courses) }
-    ensures slots { value.new ≡ unless_refused result (alone (word (was courses) 0)) (was value) }
+    ensures answer { result ≡ insert_number courses.old }
+    ensures table { courses.new ≡ inserted_words courses.old }
+    ensures slots { value.new ≡ unless_refused result (alone (word courses.old 0)) value.old }
 {
     course_edits::insert_course(courses, value)
 }
@@ -34,8 +34,8 @@ pub extern "C" fn brunskerl_append_course_entry(
     tag: u32,
     id: u32,
 ) -> u32
-    ensures answer { result ≡ append_number (was courses) course tag id }
-    ensures table { courses.new ≡ appended_words (was courses) course tag id }
+    ensures answer { result ≡ append_number courses.old course tag id }
+    ensures table { courses.new ≡ appended_words courses.old course tag id }
 {
     course_edits::append_entry(courses, course, tag, id)
 }
@@ -49,8 +49,8 @@ pub extern "C" fn brunskerl_put_course_entry(
     tag: u32,
     id: u32,
 ) -> u32
-    ensures answer { result ≡ put_number (was courses) course place tag id }
-    ensures table { courses.new ≡ put_words (was courses) course place tag id }
+    ensures answer { result ≡ put_number courses.old course place tag id }
+    ensures table { courses.new ≡ put_words courses.old course place tag id }
 {
     course_edits::put_entry(courses, course, place, tag, id)
 }
@@ -62,8 +62,8 @@ pub extern "C" fn brunskerl_strike_course_entry(
     course: usize,
     place: usize,
 ) -> u32
-    ensures answer { result ≡ strike_number (was courses) course place }
-    ensures table { courses.new ≡ struck_words (was courses) course place }
+    ensures answer { result ≡ strike_number courses.old course place }
+    ensures table { courses.new ≡ struck_words courses.old course place }
 {
     course_edits::strike_entry(courses, course, place)
 }
@@ -72,7 +72,7 @@ pub extern "C" fn brunskerl_strike_course_entry(
 #[unsafe(no_mangle)]
 pub extern "C" fn brunskerl_course_count(courses: &[u32], value: &mut [u32; 1]) -> u32
     ensures answer { result ≡ count_number (was courses) }
-    ensures slots { value.new ≡ unless_refused result (alone (word (was courses) 0)) (was value) }
+    ensures slots { value.new ≡ unless_refused result (alone (word (was courses) 0)) value.old }
 {
     course_edits::course_count(courses, value)
 }
@@ -85,7 +85,7 @@ pub extern "C" fn brunskerl_course_length(
     value: &mut [u32; 1],
 ) -> u32
     ensures answer { result ≡ open_number (was courses) true course }
-    ensures slots { value.new ≡ unless_refused result (alone (length_of (was courses) course)) (was value) }
+    ensures slots { value.new ≡ unless_refused result (alone (length_of (was courses) course)) value.old }
 {
     course_edits::course_length(courses, course, value)
 }
@@ -99,7 +99,7 @@ pub extern "C" fn brunskerl_course_entry(
     value: &mut [u32; 2],
 ) -> u32
     ensures answer { result ≡ strike_number (was courses) course place }
-    ensures slots { value.new ≡ unless_refused result (tag_of (entry_at (was courses) course place) ∷ id_of (entry_at (was courses) course place) ∷ []) (was value) }
+    ensures slots { value.new ≡ unless_refused result (tag_of (entry_at (was courses) course place) ∷ id_of (entry_at (was courses) course place) ∷ []) value.old }
 {
     course_edits::course_entry(courses, course, place, value)
 }
@@ -116,9 +116,9 @@ pub extern "C" fn brunskerl_course_total(
     faces: &mut [u8],
     value: &mut [u64; 3],
 ) -> u32
-    ensures answer { result ≡ lent course_number room words reals office (was courses) course (was faces) }
-    ensures slots { value.new ≡ unless_refused result (lent course_slots room words reals office (was courses) course) (was value) }
-    ensures faces { faces.new ≡ replicate (length (was faces)) 0 }
+    ensures answer { result ≡ lent course_number room words reals office (was courses) course faces.old }
+    ensures slots { value.new ≡ unless_refused result (lent course_slots room words reals office (was courses) course) value.old }
+    ensures faces { faces.new ≡ replicate (length faces.old) 0 }
 {
     c_courses::course_total(room, words, reals, office, courses, course, faces, value)
 }

@@ -21,7 +21,7 @@ pub extern "C" fn brunskerl_list_entry(
     value: &mut [u32; 1],
 ) -> u32
     ensures answer { result ≡ lent office_entry_number room words reals office j i place }
-    ensures slots { value.new ≡ unless_refused result (word (list_of (was room) (was words) j (record_for (held room words reals) office j i)) place ∷ []) (was value) }
+    ensures slots { value.new ≡ unless_refused result (word (list_of (was room) (was words) j (record_for (held room words reals) office j i)) place ∷ []) value.old }
 {
     c_queries::list_entry(room, words, reals, office, j, i, place, value)
 }
@@ -38,8 +38,8 @@ pub extern "C" fn brunskerl_put_entry(
     place: usize,
     id: u32,
 ) -> u32
-    ensures answer { result ≡ lent office_entry_number room words reals office j i place }
-    ensures tables { words.new ≡ lent office_put_words room words reals office j i place id }
+    ensures answer { result ≡ office_entry_number room.now words.old reals.now office j i place }
+    ensures tables { words.new ≡ office_put_words room.now words.old reals.now office j i place id }
 {
     put_entry(room, words, reals, office, j, i, place, id)
 }
@@ -55,8 +55,8 @@ pub extern "C" fn brunskerl_append_entry(
     i: usize,
     id: u32,
 ) -> u32
-    ensures answer { result ≡ lent office_append_number room words reals office j i }
-    ensures tables { words.new ≡ lent office_append_words room words reals office j i id }
+    ensures answer { result ≡ office_append_number room.now words.old reals.now office j i }
+    ensures tables { words.new ≡ office_append_words room.now words.old reals.now office j i id }
 {
     append_entry(room, words, reals, office, j, i, id)
 }
@@ -72,8 +72,8 @@ pub extern "C" fn brunskerl_strike_entry(
     i: usize,
     place: usize,
 ) -> u32
-    ensures answer { result ≡ lent office_entry_number room words reals office j i place }
-    ensures tables { words.new ≡ lent office_strike_words room words reals office j i place }
+    ensures answer { result ≡ office_entry_number room.now words.old reals.now office j i place }
+    ensures tables { words.new ≡ office_strike_words room.now words.old reals.now office j i place }
 {
     strike_entry(room, words, reals, office, j, i, place)
 }

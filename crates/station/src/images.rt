@@ -15,7 +15,7 @@ pub extern "C" fn brunskerl_image_length(
     value: &mut [usize; 1],
 ) -> u32
     ensures answer { result ≡ lent length_number room words reals }
-    ensures slots { value.new ≡ unless_refused result (alone (length (image_of (held room words reals)))) (was value) }
+    ensures slots { value.new ≡ unless_refused result (alone (length (image_of (held room words reals)))) value.old }
 {
     c_images::image_length(room, words, reals, value)
 }
@@ -29,9 +29,9 @@ pub extern "C" fn brunskerl_write_image(
     bytes: &mut [u8],
     value: &mut [usize; 1],
 ) -> u32
-    ensures answer { result ≡ lent write_number room words reals (was bytes) }
-    ensures slots { value.new ≡ unless_refused result (alone (length (image_of (held room words reals)))) (was value) }
-    ensures image { bytes.new ≡ lent written_bytes room words reals (was bytes) }
+    ensures answer { result ≡ lent write_number room words reals bytes.old }
+    ensures slots { value.new ≡ unless_refused result (alone (length (image_of (held room words reals)))) value.old }
+    ensures image { bytes.new ≡ lent written_bytes room words reals bytes.old }
 {
     c_images::write_image(room, words, reals, bytes, value)
 }
@@ -44,9 +44,9 @@ pub extern "C" fn brunskerl_read_image(
     reals: &mut [f64],
     bytes: &[u8],
 ) -> u32
-    ensures answer { result ≡ lent read_number room words reals (was bytes) }
-    ensures tables { words.new ≡ lent read_words room words reals (was bytes) }
-    ensures floats { reals.new ≡ lent read_reals room words reals (was bytes) }
+    ensures answer { result ≡ read_number room.now words.old reals.old (was bytes) }
+    ensures tables { words.new ≡ read_words room.now words.old reals.old (was bytes) }
+    ensures floats { reals.new ≡ read_reals room.now words.old reals.old (was bytes) }
 {
     image_reader::read_image(room, words, reals, bytes)
 }

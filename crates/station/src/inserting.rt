@@ -4,7 +4,7 @@ ghost use Rattle.memory_layout.specs.Names.{BODIES, REGIONS, SHELLS, FACES, LOOP
 ghost use Rattle.memory_layout.specs.Layout.{word};
 ghost use Rattle.memory_writes.specs.Put.{unless_refused};
 ghost use Rattle.edit_core.specs.Answers.{insert_number, insert_words, insert_reals};
-ghost use Rattle.c_lent.specs.Lent.{was, lent};
+ghost use Rattle.c_lent.specs.Lent.{was};
 ghost use Rattle.c_values.specs.Given.{body_in, region_known, face_known, fin_known, carrier_known, edge_good, vertex_good, body_given, region_given, shell_given, face_given, loop_given, fin_given, edge_given, vertex_given, carrier_given, edge_own, vertex_own, carrier_own};
 
 #[unsafe(no_mangle)]
@@ -16,10 +16,10 @@ pub extern "C" fn brunskerl_insert_body(
     value: &[u32; 1],
     id: &mut [u32; 1],
 ) -> u32
-    ensures answer { result ≡ lent insert_number room words reals (body_in office (was value)) BODIES }
-    ensures slots { id.new ≡ unless_refused result (word (was words) BODIES ∷ []) (was id) }
-    ensures tables { words.new ≡ lent insert_words room words reals (body_in office (was value)) BODIES (body_given office (was value)) }
-    ensures floats { reals.new ≡ lent insert_reals room words reals (body_in office (was value)) BODIES [] }
+    ensures answer { result ≡ insert_number room.now words.old reals.old (body_in office (was value)) BODIES }
+    ensures slots { id.new ≡ unless_refused result (word words.old BODIES ∷ []) id.old }
+    ensures tables { words.new ≡ insert_words room.now words.old reals.old (body_in office (was value)) BODIES (body_given office (was value)) }
+    ensures floats { reals.new ≡ insert_reals room.now words.old reals.old (body_in office (was value)) BODIES [] }
 {
     c_inserts::body(room, words, reals, office, value, id)
 }
@@ -32,10 +32,10 @@ pub extern "C" fn brunskerl_insert_region(
     value: &[u32; 2],
     id: &mut [u32; 1],
 ) -> u32
-    ensures answer { result ≡ lent insert_number room words reals (region_known (was value)) REGIONS }
-    ensures slots { id.new ≡ unless_refused result (word (was words) REGIONS ∷ []) (was id) }
-    ensures tables { words.new ≡ lent insert_words room words reals (region_known (was value)) REGIONS (region_given (was value)) }
-    ensures floats { reals.new ≡ lent insert_reals room words reals (region_known (was value)) REGIONS [] }
+    ensures answer { result ≡ insert_number room.now words.old reals.old (region_known (was value)) REGIONS }
+    ensures slots { id.new ≡ unless_refused result (word words.old REGIONS ∷ []) id.old }
+    ensures tables { words.new ≡ insert_words room.now words.old reals.old (region_known (was value)) REGIONS (region_given (was value)) }
+    ensures floats { reals.new ≡ insert_reals room.now words.old reals.old (region_known (was value)) REGIONS [] }
 {
     c_inserts::region(room, words, reals, value, id)
 }
@@ -48,10 +48,10 @@ pub extern "C" fn brunskerl_insert_shell(
     value: &[u32; 1],
     id: &mut [u32; 1],
 ) -> u32
-    ensures answer { result ≡ lent insert_number room words reals true SHELLS }
-    ensures slots { id.new ≡ unless_refused result (word (was words) SHELLS ∷ []) (was id) }
-    ensures tables { words.new ≡ lent insert_words room words reals true SHELLS (shell_given (was value)) }
-    ensures floats { reals.new ≡ lent insert_reals room words reals true SHELLS [] }
+    ensures answer { result ≡ insert_number room.now words.old reals.old true SHELLS }
+    ensures slots { id.new ≡ unless_refused result (word words.old SHELLS ∷ []) id.old }
+    ensures tables { words.new ≡ insert_words room.now words.old reals.old true SHELLS (shell_given (was value)) }
+    ensures floats { reals.new ≡ insert_reals room.now words.old reals.old true SHELLS [] }
 {
     c_inserts::shell(room, words, reals, value, id)
 }
@@ -64,10 +64,10 @@ pub extern "C" fn brunskerl_insert_face(
     value: &[u32; 7],
     id: &mut [u32; 1],
 ) -> u32
-    ensures answer { result ≡ lent insert_number room words reals (face_known (was value)) FACES }
-    ensures slots { id.new ≡ unless_refused result (word (was words) FACES ∷ []) (was id) }
-    ensures tables { words.new ≡ lent insert_words room words reals (face_known (was value)) FACES (face_given (was value)) }
-    ensures floats { reals.new ≡ lent insert_reals room words reals (face_known (was value)) FACES [] }
+    ensures answer { result ≡ insert_number room.now words.old reals.old (face_known (was value)) FACES }
+    ensures slots { id.new ≡ unless_refused result (word words.old FACES ∷ []) id.old }
+    ensures tables { words.new ≡ insert_words room.now words.old reals.old (face_known (was value)) FACES (face_given (was value)) }
+    ensures floats { reals.new ≡ insert_reals room.now words.old reals.old (face_known (was value)) FACES [] }
 {
     c_inserts::face(room, words, reals, value, id)
 }
@@ -80,10 +80,10 @@ pub extern "C" fn brunskerl_insert_loop(
     value: &[u32; 1],
     id: &mut [u32; 1],
 ) -> u32
-    ensures answer { result ≡ lent insert_number room words reals true LOOPS }
-    ensures slots { id.new ≡ unless_refused result (word (was words) LOOPS ∷ []) (was id) }
-    ensures tables { words.new ≡ lent insert_words room words reals true LOOPS (loop_given (was value)) }
-    ensures floats { reals.new ≡ lent insert_reals room words reals true LOOPS [] }
+    ensures answer { result ≡ insert_number room.now words.old reals.old true LOOPS }
+    ensures slots { id.new ≡ unless_refused result (word words.old LOOPS ∷ []) id.old }
+    ensures tables { words.new ≡ insert_words room.now words.old reals.old true LOOPS (loop_given (was value)) }
+    ensures floats { reals.new ≡ insert_reals room.now words.old reals.old true LOOPS [] }
 {
     c_inserts::loop_(room, words, reals, value, id)
 }
@@ -96,10 +96,10 @@ pub extern "C" fn brunskerl_insert_fin(
     value: &[u32; 4],
     id: &mut [u32; 1],
 ) -> u32
-    ensures answer { result ≡ lent insert_number room words reals (fin_known (was value)) FINS }
-    ensures slots { id.new ≡ unless_refused result (word (was words) FINS ∷ []) (was id) }
-    ensures tables { words.new ≡ lent insert_words room words reals (fin_known (was value)) FINS (fin_given (was value)) }
-    ensures floats { reals.new ≡ lent insert_reals room words reals (fin_known (was value)) FINS [] }
+    ensures answer { result ≡ insert_number room.now words.old reals.old (fin_known (was value)) FINS }
+    ensures slots { id.new ≡ unless_refused result (word words.old FINS ∷ []) id.old }
+    ensures tables { words.new ≡ insert_words room.now words.old reals.old (fin_known (was value)) FINS (fin_given (was value)) }
+    ensures floats { reals.new ≡ insert_reals room.now words.old reals.old (fin_known (was value)) FINS [] }
 {
     c_inserts::fin(room, words, reals, value, id)
 }
@@ -113,10 +113,10 @@ pub extern "C" fn brunskerl_insert_edge(
     floats: &[f64; 1],
     id: &mut [u32; 1],
 ) -> u32
-    ensures answer { result ≡ lent insert_number room words reals (edge_good (was value) (was floats)) EDGES }
-    ensures slots { id.new ≡ unless_refused result (word (was words) EDGES ∷ []) (was id) }
-    ensures tables { words.new ≡ lent insert_words room words reals (edge_good (was value) (was floats)) EDGES (edge_given (was value) (was floats)) }
-    ensures floats { reals.new ≡ lent insert_reals room words reals (edge_good (was value) (was floats)) EDGES (edge_own (was value) (was floats)) }
+    ensures answer { result ≡ insert_number room.now words.old reals.old (edge_good (was value) (was floats)) EDGES }
+    ensures slots { id.new ≡ unless_refused result (word words.old EDGES ∷ []) id.old }
+    ensures tables { words.new ≡ insert_words room.now words.old reals.old (edge_good (was value) (was floats)) EDGES (edge_given (was value) (was floats)) }
+    ensures floats { reals.new ≡ insert_reals room.now words.old reals.old (edge_good (was value) (was floats)) EDGES (edge_own (was value) (was floats)) }
 {
     c_inserts::edge(room, words, reals, value, floats, id)
 }
@@ -130,10 +130,10 @@ pub extern "C" fn brunskerl_insert_vertex(
     floats: &[f64; 4],
     id: &mut [u32; 1],
 ) -> u32
-    ensures answer { result ≡ lent insert_number room words reals (vertex_good (was value) (was floats)) VERTICES }
-    ensures slots { id.new ≡ unless_refused result (word (was words) VERTICES ∷ []) (was id) }
-    ensures tables { words.new ≡ lent insert_words room words reals (vertex_good (was value) (was floats)) VERTICES (vertex_given (was value) (was floats)) }
-    ensures floats { reals.new ≡ lent insert_reals room words reals (vertex_good (was value) (was floats)) VERTICES (vertex_own (was value) (was floats)) }
+    ensures answer { result ≡ insert_number room.now words.old reals.old (vertex_good (was value) (was floats)) VERTICES }
+    ensures slots { id.new ≡ unless_refused result (word words.old VERTICES ∷ []) id.old }
+    ensures tables { words.new ≡ insert_words room.now words.old reals.old (vertex_good (was value) (was floats)) VERTICES (vertex_given (was value) (was floats)) }
+    ensures floats { reals.new ≡ insert_reals room.now words.old reals.old (vertex_good (was value) (was floats)) VERTICES (vertex_own (was value) (was floats)) }
 {
     c_inserts::vertex(room, words, reals, value, floats, id)
 }
@@ -147,10 +147,10 @@ pub extern "C" fn brunskerl_insert_curve(
     floats: &[f64; 6],
     id: &mut [u32; 1],
 ) -> u32
-    ensures answer { result ≡ lent insert_number room words reals (carrier_known (was value)) CURVES }
-    ensures slots { id.new ≡ unless_refused result (word (was words) CURVES ∷ []) (was id) }
-    ensures tables { words.new ≡ lent insert_words room words reals (carrier_known (was value)) CURVES (carrier_given (was value) (was floats)) }
-    ensures floats { reals.new ≡ lent insert_reals room words reals (carrier_known (was value)) CURVES (carrier_own (was value) (was floats)) }
+    ensures answer { result ≡ insert_number room.now words.old reals.old (carrier_known (was value)) CURVES }
+    ensures slots { id.new ≡ unless_refused result (word words.old CURVES ∷ []) id.old }
+    ensures tables { words.new ≡ insert_words room.now words.old reals.old (carrier_known (was value)) CURVES (carrier_given (was value) (was floats)) }
+    ensures floats { reals.new ≡ insert_reals room.now words.old reals.old (carrier_known (was value)) CURVES (carrier_own (was value) (was floats)) }
 {
     c_inserts::curve(room, words, reals, value, floats, id)
 }
@@ -164,10 +164,10 @@ pub extern "C" fn brunskerl_insert_surface(
     floats: &[f64; 6],
     id: &mut [u32; 1],
 ) -> u32
-    ensures answer { result ≡ lent insert_number room words reals (carrier_known (was value)) SURFACES }
-    ensures slots { id.new ≡ unless_refused result (word (was words) SURFACES ∷ []) (was id) }
-    ensures tables { words.new ≡ lent insert_words room words reals (carrier_known (was value)) SURFACES (carrier_given (was value) (was floats)) }
-    ensures floats { reals.new ≡ lent insert_reals room words reals (carrier_known (was value)) SURFACES (carrier_own (was value) (was floats)) }
+    ensures answer { result ≡ insert_number room.now words.old reals.old (carrier_known (was value)) SURFACES }
+    ensures slots { id.new ≡ unless_refused result (word words.old SURFACES ∷ []) id.old }
+    ensures tables { words.new ≡ insert_words room.now words.old reals.old (carrier_known (was value)) SURFACES (carrier_given (was value) (was floats)) }
+    ensures floats { reals.new ≡ insert_reals room.now words.old reals.old (carrier_known (was value)) SURFACES (carrier_own (was value) (was floats)) }
 {
     c_inserts::surface(room, words, reals, value, floats, id)
 }

@@ -9,7 +9,7 @@ ghost use Rattle.check_report.specs.Calls.{asked};
 ghost use Rattle.office_measures.specs.Answers.{office_box_number, office_volume_number, office_check_number, office_faults};
 ghost use Rattle.split_place.specs.SplitNumber.{office_split_number};
 ghost use Rattle.split_edge.specs.After.{office_split_words, office_split_reals};
-ghost use Rattle.c_lent.specs.Lent.{was, lent, held};
+ghost use Rattle.c_lent.specs.Lent.{lent, held};
 ghost use Rattle.c_answers.specs.Values.{wanted};
 ghost use Rattle.c_first.specs.Slots.{first_value};
 ghost use Rattle.c_measures.specs.Measures.{box_value, volume_value, report_value, fit_value};
@@ -27,11 +27,11 @@ pub extern "C" fn brunskerl_body_bounding_box(
     vertices: &mut [u8],
     value: &mut [f64; 6],
 ) -> u32
-    ensures answer { result ≡ lent office_box_number room words reals office body (was faces) (was edges) (was vertices) }
-    ensures slots { value.new ≡ unless_refused result (box_value (held room words reals) (body_for (held room words reals) office body)) (was value) }
-    ensures faces { faces.new ≡ replicate (length (was faces)) 0 }
-    ensures edges { edges.new ≡ replicate (length (was edges)) 0 }
-    ensures vertices { vertices.new ≡ replicate (length (was vertices)) 0 }
+    ensures answer { result ≡ lent office_box_number room words reals office body faces.old edges.old vertices.old }
+    ensures slots { value.new ≡ unless_refused result (box_value (held room words reals) (body_for (held room words reals) office body)) value.old }
+    ensures faces { faces.new ≡ replicate (length faces.old) 0 }
+    ensures edges { edges.new ≡ replicate (length edges.old) 0 }
+    ensures vertices { vertices.new ≡ replicate (length vertices.old) 0 }
 {
     c_measures::box_of(
         room, words, reals, office, body, faces, edges, vertices, value,
@@ -49,9 +49,9 @@ pub extern "C" fn brunskerl_body_volume(
     faces: &mut [u8],
     value: &mut [f64; 1],
 ) -> u32
-    ensures answer { result ≡ lent office_volume_number room words reals office body (was faces) }
-    ensures slots { value.new ≡ unless_refused result (volume_value (held room words reals) (body_for (held room words reals) office body)) (was value) }
-    ensures faces { faces.new ≡ replicate (length (was faces)) 0 }
+    ensures answer { result ≡ lent office_volume_number room words reals office body faces.old }
+    ensures slots { value.new ≡ unless_refused result (volume_value (held room words reals) (body_for (held room words reals) office body)) value.old }
+    ensures faces { faces.new ≡ replicate (length faces.old) 0 }
 {
     c_measures::volume_of(room, words, reals, office, body, faces, value)
 }
@@ -67,10 +67,10 @@ pub extern "C" fn brunskerl_split_line_edge(
     fraction: f64,
     value: &mut [u32; 3],
 ) -> u32
-    ensures answer { result ≡ lent office_split_number room words reals office edge fraction }
-    ensures slots { value.new ≡ unless_refused result (edge ∷ word (was words) EDGES ∷ word (was words) VERTICES ∷ []) (was value) }
-    ensures tables { words.new ≡ lent office_split_words room words reals office edge fraction }
-    ensures floats { reals.new ≡ lent office_split_reals room words reals office edge fraction }
+    ensures answer { result ≡ office_split_number room.now words.old reals.old office edge fraction }
+    ensures slots { value.new ≡ unless_refused result (edge ∷ word words.old EDGES ∷ word words.old VERTICES ∷ []) value.old }
+    ensures tables { words.new ≡ office_split_words room.now words.old reals.old office edge fraction }
+    ensures floats { reals.new ≡ office_split_reals room.now words.old reals.old office edge fraction }
 {
     c_measures::split_of(room, words, reals, office, edge, fraction, value)
 }
@@ -91,11 +91,11 @@ pub extern "C" fn brunskerl_check_body(
     list: &mut [u32],
     value: &mut [usize; 3],
 ) -> u32
-    ensures answer { result ≡ lent office_check_number room words reals office body (asked (wanted geometry) samples) (was faces) (was edges) }
-    ensures slots { value.new ≡ unless_refused result (lent report_value room words reals (body_for (held room words reals) office body) (asked (wanted geometry) samples) (was list)) (was value) }
-    ensures list { list.new ≡ lent office_faults room words reals office body (asked (wanted geometry) samples) (was faces) (was edges) (was list) }
-    ensures faces { faces.new ≡ replicate (length (was faces)) 0 }
-    ensures edges { edges.new ≡ replicate (length (was edges)) 0 }
+    ensures answer { result ≡ lent office_check_number room words reals office body (asked (wanted geometry) samples) faces.old edges.old }
+    ensures slots { value.new ≡ unless_refused result (lent report_value room words reals (body_for (held room words reals) office body) (asked (wanted geometry) samples) list.old) value.old }
+    ensures list { list.new ≡ lent office_faults room words reals office body (asked (wanted geometry) samples) faces.old edges.old list.old }
+    ensures faces { faces.new ≡ replicate (length faces.old) 0 }
+    ensures edges { edges.new ≡ replicate (length edges.old) 0 }
 {
     c_measures::report_of(
         room, words, reals, office, body, geometry, samples, faces, edges, list, value,
@@ -116,10 +116,10 @@ pub extern "C" fn brunskerl_first_fault(
     edges: &mut [u8],
     value: &mut [u32; 5],
 ) -> u32
-    ensures answer { result ≡ lent office_check_number room words reals office body (asked (wanted geometry) samples) (was faces) (was edges) }
-    ensures slots { value.new ≡ unless_refused result (lent first_value room words reals (body_for (held room words reals) office body) (asked (wanted geometry) samples)) (was value) }
-    ensures faces { faces.new ≡ replicate (length (was faces)) 0 }
-    ensures edges { edges.new ≡ replicate (length (was edges)) 0 }
+    ensures answer { result ≡ lent office_check_number room words reals office body (asked (wanted geometry) samples) faces.old edges.old }
+    ensures slots { value.new ≡ unless_refused result (lent first_value room words reals (body_for (held room words reals) office body) (asked (wanted geometry) samples)) value.old }
+    ensures faces { faces.new ≡ replicate (length faces.old) 0 }
+    ensures edges { edges.new ≡ replicate (length edges.old) 0 }
 {
     c_first::first_of(
         room, words, reals, office, body, geometry, samples, faces, edges, value,
@@ -138,10 +138,10 @@ pub extern "C" fn brunskerl_fit_to_saw(
     edges: &mut [u8],
     value: &mut [u32; 1],
 ) -> u32
-    ensures answer { result ≡ lent office_check_number room words reals office body sawing (was faces) (was edges) }
-    ensures slots { value.new ≡ unless_refused result (fit_value (held room words reals) (body_for (held room words reals) office body)) (was value) }
-    ensures faces { faces.new ≡ replicate (length (was faces)) 0 }
-    ensures edges { edges.new ≡ replicate (length (was edges)) 0 }
+    ensures answer { result ≡ lent office_check_number room words reals office body sawing faces.old edges.old }
+    ensures slots { value.new ≡ unless_refused result (fit_value (held room words reals) (body_for (held room words reals) office body)) value.old }
+    ensures faces { faces.new ≡ replicate (length faces.old) 0 }
+    ensures edges { edges.new ≡ replicate (length edges.old) 0 }
 {
     c_measures::fit_of(room, words, reals, office, body, faces, edges, value)
 }

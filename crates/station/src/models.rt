@@ -5,7 +5,7 @@ ghost use Rattle.memory_layout.specs.Readable.{readable};
 ghost use Rattle.memory_layout.specs.Laid.{version_tag};
 ghost use Rattle.memory_writes.specs.Put.{unless_refused};
 ghost use Rattle.edit_make.specs.Answers.{make_number, make_words, make_reals};
-ghost use Rattle.c_lent.specs.Lent.{was, lent, held};
+ghost use Rattle.c_lent.specs.Lent.{lent, held};
 
 // An empty model with its precision and its version.
 #[unsafe(no_mangle)]
@@ -16,9 +16,9 @@ pub extern "C" fn brunskerl_make(
     precision: f64,
     version: u32,
 ) -> u32
-    ensures answer { result ≡ lent make_number room words reals precision version }
-    ensures tables { words.new ≡ lent make_words room words reals precision version }
-    ensures floats { reals.new ≡ lent make_reals room words reals precision version }
+    ensures answer { result ≡ make_number room.now words.old reals.old precision version }
+    ensures tables { words.new ≡ make_words room.now words.old reals.old precision version }
+    ensures floats { reals.new ≡ make_reals room.now words.old reals.old precision version }
 {
     edit_make::make(room, words, reals, precision, version)
 }
@@ -32,7 +32,7 @@ pub extern "C" fn brunskerl_precision(
     value: &mut [f64; 1],
 ) -> u32
     ensures answer { result ≡ 9 unless lent readable room words reals }
-    ensures slots { value.new ≡ unless_refused result ((held room words reals).precision ∷ []) (was value) }
+    ensures slots { value.new ≡ unless_refused result ((held room words reals).precision ∷ []) value.old }
 {
     c_queries::precision(room, words, reals, value)
 }
@@ -46,7 +46,7 @@ pub extern "C" fn brunskerl_version(
     value: &mut [u32; 1],
 ) -> u32
     ensures answer { result ≡ 9 unless lent readable room words reals }
-    ensures slots { value.new ≡ unless_refused result (version_tag (held room words reals).version ∷ []) (was value) }
+    ensures slots { value.new ≡ unless_refused result (version_tag (held room words reals).version ∷ []) value.old }
 {
     c_queries::version(room, words, reals, value)
 }

@@ -1,6 +1,6 @@
 // The three walks: how many ids were put into the front of the lent list, and the number in a lent slot.
 ghost use Rattle.std.specs.Prelude.{◌≡◌, length, replicate};
-ghost use Rattle.c_lent.specs.Lent.{was, lent};
+ghost use Rattle.c_lent.specs.Lent.{lent};
 ghost use Rattle.walk_answers.specs.Calls.{in_front};
 ghost use Rattle.office_walks.specs.Calls.{office_faces_number, office_faces_handed, office_edges_number, office_edges_handed, office_vertices_number, office_vertices_handed};
 
@@ -18,10 +18,10 @@ pub extern "C" fn brunskerl_body_faces(
     out: &mut [u32],
     code: &mut u32,
 ) -> usize
-    ensures count { result ≡ length (lent office_faces_handed room words reals office body (was faces) (was out)) }
-    ensures list { out.new ≡ in_front (lent office_faces_handed room words reals office body (was faces) (was out)) (was out) }
-    ensures code { code.new ≡ lent office_faces_number room words reals office body (was faces) (was out) }
-    ensures faces { faces.new ≡ replicate (length (was faces)) 0 }
+    ensures count { result ≡ length (lent office_faces_handed room words reals office body faces.old out.old) }
+    ensures list { out.new ≡ in_front (lent office_faces_handed room words reals office body faces.old out.old) out.old }
+    ensures code { code.new ≡ lent office_faces_number room words reals office body faces.old out.old }
+    ensures faces { faces.new ≡ replicate (length faces.old) 0 }
 {
     write_faces(room, words, reals, office, body, faces, out, code)
 }
@@ -39,11 +39,11 @@ pub extern "C" fn brunskerl_body_edges(
     out: &mut [u32],
     code: &mut u32,
 ) -> usize
-    ensures count { result ≡ length (lent office_edges_handed room words reals office body (was faces) (was edges) (was out)) }
-    ensures list { out.new ≡ in_front (lent office_edges_handed room words reals office body (was faces) (was edges) (was out)) (was out) }
-    ensures code { code.new ≡ lent office_edges_number room words reals office body (was faces) (was edges) (was out) }
-    ensures faces { faces.new ≡ replicate (length (was faces)) 0 }
-    ensures edges { edges.new ≡ replicate (length (was edges)) 0 }
+    ensures count { result ≡ length (lent office_edges_handed room words reals office body faces.old edges.old out.old) }
+    ensures list { out.new ≡ in_front (lent office_edges_handed room words reals office body faces.old edges.old out.old) out.old }
+    ensures code { code.new ≡ lent office_edges_number room words reals office body faces.old edges.old out.old }
+    ensures faces { faces.new ≡ replicate (length faces.old) 0 }
+    ensures edges { edges.new ≡ replicate (length edges.old) 0 }
 {
     write_edges(room, words, reals, office, body, faces, edges, out, code)
 }
@@ -62,12 +62,12 @@ pub extern "C" fn brunskerl_body_vertices(
     out: &mut [u32],
     code: &mut u32,
 ) -> usize
-    ensures count { result ≡ length (lent office_vertices_handed room words reals office body (was faces) (was edges) (was vertices) (was out)) }
-    ensures list { out.new ≡ in_front (lent office_vertices_handed room words reals office body (was faces) (was edges) (was vertices) (was out)) (was out) }
-    ensures code { code.new ≡ lent office_vertices_number room words reals office body (was faces) (was edges) (was vertices) (was out) }
-    ensures faces { faces.new ≡ replicate (length (was faces)) 0 }
-    ensures edges { edges.new ≡ replicate (length (was edges)) 0 }
-    ensures vertices { vertices.new ≡ replicate (length (was vertices)) 0 }
+    ensures count { result ≡ length (lent office_vertices_handed room words reals office body faces.old edges.old vertices.old out.old) }
+    ensures list { out.new ≡ in_front (lent office_vertices_handed room words reals office body faces.old edges.old vertices.old out.old) out.old }
+    ensures code { code.new ≡ lent office_vertices_number room words reals office body faces.old edges.old vertices.old out.old }
+    ensures faces { faces.new ≡ replicate (length faces.old) 0 }
+    ensures edges { edges.new ≡ replicate (length edges.old) 0 }
+    ensures vertices { vertices.new ≡ replicate (length vertices.old) 0 }
 {
     write_vertices(
         room, words, reals, office, body, faces, edges, vertices, out, code,
