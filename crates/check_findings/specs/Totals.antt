@@ -37,7 +37,7 @@ use Rattle.walk_visits.specs.Visits.{ids_of}
 use Rattle.walk_paths.specs.Paths.{edge_path, edge_list, body_followed, faces_there, loops_followed, Looped}
 use Rattle.walk_paths.specs.Laws.{edge-sources, edge-path-short, shelled-of, faced-of, looped-of}
 use Rattle.walk_answers.specs.Laws.{edge-list, edges-refusal, faces-refusal}
-use Rattle.memory_layout.specs.Laws.{listed_le}
+use Rattle.memory_layout.proofs.Laws.{listed_le}
 
 -- ---- lists of findings
 

@@ -16,7 +16,8 @@ use Rattle.memory_layout.specs.Decode.{decode}
 use Rattle.memory_layout.specs.Readable as Readable
 use Rattle.memory_layout.specs.Entries.{list_tables, list_places, list_limits}
 use Rattle.memory_layout.specs.Fit.{Fit}
-use Rattle.memory_layout.specs.Laws.{words-length, lists_of}
+use Rattle.memory_layout.specs.Laws.{lists_of}
+use Rattle.memory_layout.proofs.Laws.{words-length}
 use Rattle.memory_writes.specs.Put.{over, put_words, put_reals, new_words, counted, unless_refused}
 use Rattle.memory_writes.specs.Over.{length_over}
 use Rattle.memory_writes.specs.Frame.{new-length}

@@ -14,7 +14,8 @@ use Rattle.memory_layout.specs.Decode.{list_at}
 use Rattle.memory_layout.specs.Entries.{list_tables, list_places, list_limits, list_of}
 use Rattle.memory_layout.specs.Readable.{readable}
 use Rattle.memory_layout.specs.Fit.{Held, Fit, Lists}
-use Rattle.memory_layout.specs.Laws.{capacity-le, record-inside, words-length, list-room, list_inside, list_held, held-length, limit-le, fit_of}
+use Rattle.memory_layout.specs.Laws.{capacity-le, record-inside, list-room, list_inside, held-length, limit-le, fit_of}
+use Rattle.memory_layout.proofs.Laws.{words-length, list_held}
 use Rattle.memory_writes.specs.Put.{put_words}
 use Rattle.memory_writes.specs.Over.{over-within, part-within}
 use Rattle.edit_lists.specs.Place.{with_list}

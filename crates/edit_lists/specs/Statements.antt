@@ -11,7 +11,9 @@ use Rattle.memory_layout.specs.Decode.{decode}
 use Rattle.memory_layout.specs.Readable.{readable}
 use Rattle.memory_layout.specs.Entries.{list_tables, list_places, list_limits, list_of, entry_refusal}
 use Rattle.memory_layout.specs.Fit.{Inside, Fit}
-use Rattle.memory_layout.specs.Laws.{record-inside, words-length, reals-length, used-inside, list-table, list-room, lists_of, listed_le, entry-standing}
+use Rattle.memory_layout.specs.Laws.{record-inside, used-inside, list-table, list-room, lists_of, entry-standing}
+use Rattle.memory_layout.proofs.Laws.{listed_le}
+use Rattle.memory_layout.proofs.Laws.{words-length, reals-length}
 use Rattle.memory_writes.specs.Put.{put_words, put_reals}
 use Rattle.memory_writes.specs.Over.{length_over, over-same}
 use Rattle.memory_writes.specs.Change.{SameModel, with_record}

@@ -1,4 +1,3 @@
 pub mod Exact
 pub mod Worked
 pub mod Grid
-pub mod Laws

@@ -1,4 +1,3 @@
 pub mod Next
 pub mod Worked
-pub mod Bits
 pub mod Extremes

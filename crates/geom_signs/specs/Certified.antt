@@ -7,7 +7,8 @@ use Rattle.interval_arithmetic.specs.Ops.{point_i}
 use Rattle.interval_vectors.specs.Vectors.{vector_i, dot_i}
 use Rattle.float_values.specs.Value.{value, Real}
 use Rattle.interval_enclosure.specs.Value.{value_p, value_v, RealP, RealV, Whole3, minus_w, dot_w, Holds, SignOf}
-use Rattle.interval_enclosure.specs.Enclose.{point-holds, point3-holds, difference-holds, vector-holds, add-encloses, sub-encloses, sqr-encloses, dot-encloses, rescaled, sign-is}
+use Rattle.interval_enclosure.proofs.Vectors.{difference-holds, vector-holds}
+use Rattle.interval_enclosure.proofs.Enclose.{point-holds, point3-holds, add-encloses, sub-encloses, sqr-encloses, dot-encloses, rescaled, sign-is}
 use Rattle.geom_lines_planes.specs.declared.surface.Plane.{Plane}
 use Rattle.geom_signs.specs.Signs.{increasing_s, span_s, apart_s, off_plane_s, off_curve_s}
 

@@ -5,7 +5,7 @@ use Rattle.float_vectors.specs.declared.vector.Point3.{Point3}
 use Rattle.float_vectors.specs.declared.vector.Vec3.{Vec3}
 use Rattle.geom_lines_planes.specs.declared.surface.Plane.{Plane}
 use Rattle.interval_narrowing.specs.Narrow.{Within, never, vector_by, dot_by}
-use Rattle.interval_narrowing.specs.Narrowing.{point-within, point3-within, sqr-narrow, add-narrow, sub_narrow, difference-narrow, vector-narrow, dot-narrow, sign_narrow}
+use Rattle.interval_narrowing.proofs.Narrowing.{point-within, point3-within, sqr-narrow, add-narrow, sub_narrow, difference-narrow, vector-narrow, dot-narrow, sign_narrow}
 use Rattle.geom_signs_kept.specs.SignsBy.{increasing_by, span_by, apart_by, off_plane_by, off_curve_by}
 
 module _ (k : Float → Float → Bool) where

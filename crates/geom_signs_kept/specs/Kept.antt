@@ -11,7 +11,7 @@ use Rattle.interval_vectors.specs.Vectors.{point_i3, vector_i, dot_i}
 use Rattle.geom_lines_planes.specs.declared.surface.Plane.{Plane}
 use Rattle.geom_signs.specs.Signs.{increasing_s, span_s, apart_s, off_plane_s, off_curve_s}
 use Rattle.interval_narrowing.specs.Narrow.{never}
-use Rattle.interval_narrowing.specs.Narrowing.{add-exact, sub-exact, difference-exact, vector-exact, dot-exact}
+use Rattle.interval_narrowing.proofs.Narrowing.{add-exact, sub-exact, difference-exact, vector-exact, dot-exact}
 use Rattle.geom_signs_kept.specs.SignsBy.{increasing_by, span_by, apart_by, off_plane_by, off_curve_by}
 use Rattle.geom_signs_kept.specs.Decided.{increasing-decided, span-decided, apart-decided, off-plane-decided, off-curve-decided}
 
@@ -50,6 +50,3 @@ apart-kept p q precision n = sym (apart-exact p q precision) ∙ apart-decided e
 
 pub off-plane-kept : (s : Plane) (p : Point3) (tolerance : Float) → (off_plane_by never s p tolerance ≡ Unresolved → ⊥) → off_plane_s s p tolerance ≡ off_plane_by never s p tolerance
 off-plane-kept s p tolerance n = sym (off-plane-exact s p tolerance) ∙ off-plane-decided exact_sum s p tolerance n
-
-pub off-curve-kept : (p q : Point3) (vertex edge : Float) → (off_curve_by never p q vertex edge ≡ Unresolved → ⊥) → off_curve_s p q vertex edge ≡ off_curve_by never p q vertex edge
-off-curve-kept p q vertex edge n = sym (off-curve-exact p q vertex edge) ∙ off-curve-decided exact_sum p q vertex edge n

@@ -6,7 +6,7 @@ use Rattle.std.specs.Float.Ieee.{div, ne, of_bits, to_bits}
 use Rattle.std.specs.Float.Ieee.Bits.{nan_bits_is, nan_bits_above}
 use Rattle.std.specs.Float.Ieee.Compare.{differs_from_itself}
 use Rattle.float_order.specs.Next.{INF, TOP}
-use Rattle.float_order.specs.Bits.{ne-self}
+use Rattle.float_order.proofs.Bits.{ne-self}
 
 pub nan-bits : (x : Float) → ne x x ≡ true → 0x7ff8000000000000 ≡ to_bits binary64 x
 unfolding to_bits

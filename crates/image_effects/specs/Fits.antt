@@ -22,7 +22,8 @@ use Rattle.memory_layout.specs.Laid.{bit, sense, kind, maybe, tag, own, rooms}
 use Rattle.memory_layout.specs.Readable.{record_ok}
 use Rattle.memory_layout.specs.Entries.{list_tables, list_of}
 use Rattle.memory_layout.specs.Fit.{Fit}
-use Rattle.memory_layout.specs.Laws.{capacity-le, lists_of, listed_le, limit-le}
+use Rattle.memory_layout.specs.Laws.{capacity-le, lists_of, limit-le}
+use Rattle.memory_layout.proofs.Laws.{listed_le}
 use Rattle.memory_writes.specs.Put.{over, put_reals, unless_refused}
 use Rattle.image_format.specs.Fields.{word_counts, float_counts, list_counts, body_fields, region_fields, shell_fields, face_fields, loop_fields, fin_fields, edge_fields, vertex_fields, carrier_fields}
 use Rattle.image_format.specs.Image.{precision_fields}

@@ -12,7 +12,8 @@ use Rattle.std.specs.Float.Ieee.{nan}
 use Rattle.memory_layout.specs.Names.{VERSION, PRECISION}
 use Rattle.memory_layout.specs.Layout.{word_strides, real_strides, word, real, base, record_at, word_at, real_at, words_of, reals_of}
 use Rattle.memory_layout.specs.Fit.{Inside}
-use Rattle.memory_layout.specs.Laws.{before-tables, record-inside, words-length}
+use Rattle.memory_layout.specs.Laws.{before-tables, record-inside}
+use Rattle.memory_layout.proofs.Laws.{words-length}
 use Rattle.memory_writes.specs.Put.{over, put_words, put_reals}
 use Rattle.memory_writes.specs.Over.{length_over, part-behind, entry-behind, entry-written}
 use Rattle.memory_writes.specs.Frame.{length-put, put-there, put-elsewhere, put-before}

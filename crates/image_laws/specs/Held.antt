@@ -11,7 +11,8 @@ use Rattle.memory_layout.specs.Decode.{tolerance_of, decode}
 use Rattle.memory_layout.specs.Readable.{own_ok, record_ok}
 use Rattle.memory_layout.specs.Entries.{list_tables, list_limits, list_of}
 use Rattle.memory_layout.specs.Fit.{Fit}
-use Rattle.memory_layout.specs.Laws.{lists_of, listed_le}
+use Rattle.memory_layout.specs.Laws.{lists_of}
+use Rattle.memory_layout.proofs.Laws.{listed_le}
 use Rattle.image_format.specs.Image.{held}
 
 tolerance-held : (n : ℕ) (t : Float) → own_ok n t ≡ true → tolerance_ok (tolerance_of n t) ≡ true

@@ -18,8 +18,10 @@ use Rattle.memory_layout.specs.Layout.{word_strides, word, word_at, real_at, wor
 use Rattle.memory_layout.specs.Decode.{version_of, decode}
 use Rattle.memory_layout.specs.Readable.{readable}
 use Rattle.memory_layout.specs.Fit.{Sized, Fit}
-use Rattle.memory_layout.specs.Laws.{capacity-le, words-length, reals-length, before-tables, used-inside, precision-there, fit_of}
-use Rattle.memory_layout.specs.TableRows.{rows_fit, table-rows, words_row, reals-row}
+use Rattle.memory_layout.specs.Laws.{capacity-le, before-tables, used-inside, precision-there, fit_of}
+use Rattle.memory_layout.proofs.Laws.{words-length, reals-length}
+use Rattle.memory_layout.specs.TableRows.{rows_fit, words_row, reals-row}
+use Rattle.memory_layout.proofs.TableRows.{table-rows}
 use Rattle.memory_writes.specs.Put.{over}
 use Rattle.image_format.specs.Bytes.{little, words, floats, lists}
 use Rattle.image_format.specs.Fields.{PRECISION_RECORD, record_image}

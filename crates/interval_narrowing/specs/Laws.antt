@@ -3,9 +3,6 @@ pub mod Numbers
 pub mod Order
 pub mod Rounding
 pub mod Ends
-pub mod Sums
 pub mod Signs
 pub mod Extremes
 pub mod Times
-pub mod Products
-pub mod Squares

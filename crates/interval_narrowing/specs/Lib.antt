@@ -1,3 +1,2 @@
 pub mod Narrow
-pub mod Narrowing
 pub mod Laws

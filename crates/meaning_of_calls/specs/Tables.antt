@@ -13,7 +13,8 @@ use Rattle.memory_layout.specs.Decode.{decode}
 use Rattle.memory_layout.specs.Readable.{own_ok, record_ok, readable}
 use Rattle.memory_layout.specs.Entries.{list_of}
 use Rattle.memory_layout.specs.Fit.{Fit, Lists}
-use Rattle.memory_layout.specs.Laws.{fit_of, lists_of, listed_le}
+use Rattle.memory_layout.specs.Laws.{fit_of, lists_of}
+use Rattle.memory_layout.proofs.Laws.{listed_le}
 use Rattle.memory_layout.specs.Limits.{limits}
 
 own-or-none : (b : Bool) (t : Float) → (b || tolerance_ok (Own t)) ≡ true → tolerance_ok (cond b Session (Own t)) ≡ true

@@ -75,18 +75,8 @@ upper-words (suc (suc (suc (suc (suc k))))) w x h = absurd (omega arith)
 
 -- ---- a record's words and floats
 
-part_length : {A : Type 0} (l : List A) (at n : ℕ) → at + n ≤ length l → length (take n (drop at l)) ≡ n
+pub part_length : {A : Type 0} (l : List A) (at n : ℕ) → at + n ≤ length l → length (take n (drop at l)) ≡ n
 part_length l at n h = length-take-le n (drop at l) (simp length-drop (omega arith))
-
-pub words-length : (room w : List ℕ) (k i : ℕ) → Inside (words_needed room) (length w) room k i → length (words_of room w k i) ≡ word word_strides k
-unfolding words_of
-words-length room w k i h =
-    part_length w (word_at room k i) (word word_strides k) (le_trans (record-inside 11 word_strides room k i h.table h.slot) h.enough)
-
-pub reals-length : (room : List ℕ) (x : List Float) (k i : ℕ) → Inside (reals_needed room) (length x) room k i → length (reals_of room x k i) ≡ word real_strides k
-unfolding reals_of
-reals-length room x k i h =
-    part_length x (real_at room k i) (word real_strides k) (le_trans (record-inside 1 real_strides room k i h.table h.slot) h.enough)
 
 -- the used counts and the version, and the precision, lie before the tables
 pub before-tables : (from : ℕ) (strides room : List ℕ) (k : ℕ) → from ≤ base from strides room k
@@ -161,14 +151,6 @@ pub list_inside : (room w : List ℕ) (j i : ℕ) → Lists room w → j < 8 →
 list_inside room w j i f h g =
     record { enough = f.words; table = list-table j h; slot = lt_of_lt_of_le g (f.counts (word list_tables j) (list-table j h)) }
 
-pub list_held : (room w : List ℕ) (j i : ℕ) → Lists room w → j < 8 → i < word w (word list_tables j)
-    → Held (words_of room w (word list_tables j) i) (word list_places j)
-list_held room w j i f h g =
-    let n = words-length room w (word list_tables j) i (list_inside room w j i f h g) in
-    let r = list-room j h in
-    let s = f.short j i h g in
-    record { place = omega arith; whole = omega arith }
-
 -- what a record's test says of its lists
 pub short-list : (j : ℕ) (w : List ℕ) (x : List Float) → j < 8 → record_ok (word list_tables j) w x ≡ true → word w (word list_places j) ≤ word list_limits j
 unfolding record_ok
@@ -218,14 +200,6 @@ edge-fins room w x e = refl
 pub held-length : (w : List ℕ) (at : ℕ) → Held w at → length (list_at w at) ≡ word w at
 unfolding list_at
 held-length w at h = length-take-le (word w at) (drop (suc at) w) (simp length-drop (omega arith))
-
--- and no more than its limit
-pub listed_le : (room w : List ℕ) (j i : ℕ) → Lists room w → j < 8 → i < word w (word list_tables j) → length (list_of room w j i) ≤ word list_limits j
-unfolding list_of
-listed_le room w j i f h g =
-    let e = held-length (words_of room w (word list_tables j) i) (word list_places j) (list_held room w j i f h g) in
-    let s = f.short j i h g in
-    omega arith
 
 pub limit-le : (j : ℕ) → j < 8 → word list_limits j ≤ 1024
 unfolding all_below

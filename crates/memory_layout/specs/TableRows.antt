@@ -48,23 +48,6 @@ rows_fit l from strides room k n h g f =
     let b = base-mono from strides room (suc k) 10 (omega arith) in
     (omega arith, simp length-drop (omega arith))
 
-pub table-rows : (room w : List ℕ) (x : List Float) (k : ℕ) → Sized room w x → k < 10
-    → TableRows k (word w k) (drop (word_at room k 0) w) (drop (real_at room k 0) x)
-table-rows room w x k s h =
-    let c = s.counts k h in
-    let d = capacity-le room s.small k h in
-    record {
-      table = h;
-      few = omega arith;
-      words = (rows_fit w 11 word_strides room k (word w k) h c s.words).1;
-      reals = (rows_fit x 1 real_strides room k (word w k) h c s.reals).1;
-    }
-
--- where that part begins
-pub table-begins : (room w : List ℕ) (x : List Float) (k : ℕ) → Sized room w x → k < 10 → (word_at room k 0 ≤ length w) × (real_at room k 0 ≤ length x)
-table-begins room w x k s h =
-    ((rows_fit w 11 word_strides room k (word w k) h (s.counts k h) s.words).0, (rows_fit x 1 real_strides room k (word w k) h (s.counts k h) s.reals).0)
-
 pub words_row : (room w : List ℕ) (k i : ℕ) → row (drop (word_at room k 0) w) (word word_strides k) i ≡ words_of room w k i
 unfolding row words_of
 words_row room w k i = let e : word_at room k 0 + word word_strides k * i ≡ word_at room k i = omega arith in rw (drop-drop, e)

@@ -6,7 +6,8 @@ use Rattle.memory_layout.specs.Layout.{word_strides, real_strides, word, words_n
 use Rattle.memory_layout.specs.Decode.{kind_of}
 use Rattle.memory_layout.specs.Entries.{list_tables, list_places}
 use Rattle.memory_layout.specs.Fit.{Inside, Sized, Held, Lists}
-use Rattle.memory_layout.specs.Laws.{words-length, reals-length, version-there, list_held}
+use Rattle.memory_layout.specs.Laws.{version-there}
+use Rattle.memory_layout.proofs.Laws.{words-length, reals-length, list_held}
 
 -- ---- a record, read off its words
 

@@ -19,7 +19,8 @@ use Rattle.memory_layout.specs.Decode.{version_of, list_at, table, body_of, regi
 use Rattle.memory_layout.specs.Readable.{record_ok}
 use Rattle.memory_layout.specs.Entries.{list_of}
 use Rattle.memory_layout.specs.Fit.{Inside, Fit}
-use Rattle.memory_layout.specs.Laws.{record-inside, words-length, reals-length, used-inside, lists_of, edge-fins}
+use Rattle.memory_layout.specs.Laws.{record-inside, used-inside, lists_of, edge-fins}
+use Rattle.memory_layout.proofs.Laws.{words-length, reals-length}
 use Rattle.memory_writes.specs.Put.{over, put_words, put_reals}
 use Rattle.memory_writes.specs.Over.{length_over, over-same, over-within, one_store}
 use Rattle.memory_writes.specs.Frame.{put-there, put-elsewhere, put-before}

@@ -20,7 +20,9 @@ use Rattle.memory_layout.specs.Decode.{sense_of, decode}
 use Rattle.memory_layout.specs.Entries.{list_tables, list_places, list_limits, list_of}
 use Rattle.memory_layout.specs.Readable.{readable}
 use Rattle.memory_layout.specs.Fit.{Fit, Lists}
-use Rattle.memory_layout.specs.Laws.{fit_of, lists_of, words-length, list_inside, list_held, list-room, limit-le, listed_le}
+use Rattle.memory_layout.specs.Laws.{fit_of, lists_of, list_inside, list-room, limit-le}
+use Rattle.memory_layout.proofs.Laws.{listed_le}
+use Rattle.memory_layout.proofs.Laws.{words-length, list_held}
 use Rattle.split_lists.specs.Beside.{entries_for}
 use Rattle.split_lists.specs.BesideFacts.{Longer}
 use Rattle.split_segment.specs.Segment.{segment_at}

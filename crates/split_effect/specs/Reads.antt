@@ -14,7 +14,8 @@ use Rattle.memory_layout.specs.Layout.{word_strides, real_strides, word, real, w
 use Rattle.memory_layout.specs.Decode.{decode}
 use Rattle.memory_layout.specs.Entries.{list_of}
 use Rattle.memory_layout.specs.Fit.{Inside}
-use Rattle.memory_layout.specs.Laws.{before-tables, words-length, used-inside}
+use Rattle.memory_layout.specs.Laws.{before-tables, used-inside}
+use Rattle.memory_layout.proofs.Laws.{words-length}
 use Rattle.memory_writes.specs.Put.{over, put_reals}
 use Rattle.memory_writes.specs.Over.{length_over, part-behind, entry-before, entry-behind, entry-written}
 use Rattle.memory_writes.specs.Frame.{length-put, put-there, put-elsewhere, put-before}

@@ -6,7 +6,7 @@ use Rattle.std.specs.Prelude.{◌≡◌, Bool, cond, List, length}
 use Rattle.std.proofs.Math.Path.{refl}
 use Rattle.memory_layout.specs.Layout.{word_strides, word, words_needed, words_of}
 use Rattle.memory_layout.specs.Fit.{Inside}
-use Rattle.memory_layout.specs.Laws.{words-length}
+use Rattle.memory_layout.proofs.Laws.{words-length}
 use Rattle.memory_writes.specs.Put.{over, put_words}
 use Rattle.memory_writes.specs.Over.{length_over}
 use Rattle.memory_writes.specs.Frame.{length-put, put-there, put-elsewhere, put-before}

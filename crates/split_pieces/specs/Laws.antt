@@ -10,7 +10,7 @@ use Rattle.meaning.specs.Lists.{run}
 use Rattle.meaning_list_laws.specs.Lists.{length_run}
 use Rattle.memory_layout.specs.Layout.{word, words_needed, words_of}
 use Rattle.memory_layout.specs.Fit.{Inside}
-use Rattle.memory_layout.specs.Laws.{words-length}
+use Rattle.memory_layout.proofs.Laws.{words-length}
 use Rattle.memory_writes.specs.Put.{over, put_words}
 use Rattle.memory_writes.specs.Over.{length_over, over_none, over-whole, over-behind, one_store}
 use Rattle.split_lists.specs.Pass.{put_all}

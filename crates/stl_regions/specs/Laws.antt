@@ -13,7 +13,7 @@ use Rattle.memory_layout.specs.Layout.{word, words_of}
 use Rattle.memory_layout.specs.Decode.{decode, flag_at}
 use Rattle.memory_layout.specs.Entries.{list_of}
 use Rattle.memory_layout.specs.Fit.{Lists}
-use Rattle.memory_layout.specs.Laws.{listed_le}
+use Rattle.memory_layout.proofs.Laws.{listed_le}
 use Rattle.inquire_sides.specs.Sides.{side_number}
 use Rattle.inquire_sides.specs.Laws.{side-number}
 use Rattle.inquire_regions.specs.Regions.{region_sides, solid_shells}

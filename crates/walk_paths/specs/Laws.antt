@@ -15,7 +15,8 @@ use Rattle.meaning_list_laws.specs.Lists.{all_firsts, all_both, all-joined, all-
 use Rattle.memory_layout.specs.Layout.{largest_tables, word}
 use Rattle.memory_layout.specs.Entries.{list_tables, list_of}
 use Rattle.memory_layout.specs.Fit.{Lists}
-use Rattle.memory_layout.specs.Laws.{capacity-le, listed_le}
+use Rattle.memory_layout.specs.Laws.{capacity-le}
+use Rattle.memory_layout.proofs.Laws.{listed_le}
 use Rattle.walk_marks.specs.Marks.{puts}
 use Rattle.walk_marks.specs.Laws.{all-nth, map-nth, once-short, puts-taken, puts-length, puts-append}
 use Rattle.walk_sources.specs.Sources.{sourced, followed, Source, Sources}

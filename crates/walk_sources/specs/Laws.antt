@@ -10,7 +10,8 @@ use Rattle.meaning_list_laws.specs.Lists.{all-weaken}
 use Rattle.memory_layout.specs.Layout.{word_strides, word, words_of}
 use Rattle.memory_layout.specs.Entries.{list_tables, list_of}
 use Rattle.memory_layout.specs.Fit.{Lists}
-use Rattle.memory_layout.specs.Laws.{capacity-le, before-tables, listed_le, limit-le}
+use Rattle.memory_layout.specs.Laws.{capacity-le, before-tables, limit-le}
+use Rattle.memory_layout.proofs.Laws.{listed_le}
 use Rattle.walk_marks.specs.Marks.{puts}
 use Rattle.walk_marks.specs.Laws.{joined-turn, puts_none, puts-append}
 use Rattle.walk_sources.specs.Sources.{entry_tables, fin_edge, end_of, ends_in, part_in, part_of, sourced, followed, Source, Took}

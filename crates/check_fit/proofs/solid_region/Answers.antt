@@ -6,7 +6,8 @@ use lib.Dec.{eqb}
 use lib.ListN.{length}
 use Rattle.meaning.specs.Lists.{any}
 use Rattle.memory_layout.specs.Layout.{word}
-use Rattle.memory_layout.specs.Laws.{words-length, words_inside}
+use Rattle.memory_layout.specs.Laws.{words_inside}
+use Rattle.memory_layout.proofs.Laws.{words-length}
 use Rattle.walk_sources.specs.Laws.{followed-slot, followed-entries}
 use Rattle.check_fit.specs.Whole.{faced_in, solid_in}
 use Rattle.check_fit.proofs.solid_region.Goals as goal

@@ -8,7 +8,8 @@ use lib.Seq.{length-take-le}
 use borrow.Author.Rules.{rules}
 use Rattle.meaning.specs.Lists.{all, any}
 use Rattle.memory_layout.specs.Layout.{word}
-use Rattle.memory_layout.specs.Laws.{words-length, words_inside}
+use Rattle.memory_layout.specs.Laws.{words_inside}
+use Rattle.memory_layout.proofs.Laws.{words-length}
 use Rattle.walk_visits.specs.Visits.{ids_of}
 use Rattle.walk_paths.specs.Laws.{laid-short, laid-front, sources-front, face-path-short, face-sources}
 use Rattle.check_fit.specs.Whole.{solid_in, owns_in}

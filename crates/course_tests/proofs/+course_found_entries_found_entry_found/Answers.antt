@@ -25,7 +25,7 @@ entries_found-loop-k-preserved t c = record {
   in_range = omega arith;
   found =
       λ room x. c.worse_of-worst.ensures
-          ∙ found_turn (decode room c.args.words.now x) _ _ _ c.args.l.now c.loop-k.k _ _ (omega arith) (c.loop-k.invariant.found room x) (c.entry_found.ensures room x);
+      ∙ found_turn (decode room c.args.words.now x) _ _ _ c.args.l.now c.loop-k.k _ _ (omega arith) (c.loop-k.invariant.found room x) (c.entry_found.ensures room x);
 }
 
 pub entry_found-returns-then-e-lt-COURSE : goal.entry_found-returns-then-e-lt-COURSE

@@ -3,7 +3,7 @@ use mathlib.Core.Path.{sym, ◌∙◌, subst}
 use borrow.Author.Rules.{rules}
 use lib.Dec.{T}
 use lib.Ieee.{binary64, fits}
-use Rattle.float_order.specs.Bits.{ne-self, is-num}
+use Rattle.float_order.proofs.Bits.{ne-self, is-num}
 use Rattle.float_narrow.specs.Laws.{told, no_number}
 use Rattle.float_narrow.proofs.narrow.Goals as goal
 use Rattle.float_narrow.proofs.narrow.Goals.{Start}

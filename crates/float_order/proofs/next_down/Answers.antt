@@ -4,7 +4,7 @@ use mathlib.Core.Bool.{not}
 use Prim.Native.Nat.{ℕ}
 use lib.Dec.{T}
 use lib.Ieee.{binary64, fits, nan_bits, of_bits}
-use Rattle.float_order.specs.Bits.{is-num, down-nan, down-num, down-good, bits-le}
+use Rattle.float_order.proofs.Bits.{is-num, down-nan, down-num, down-good, bits-le}
 use Rattle.float_order.proofs.next_down.Goals as goal
 use Rattle.float_order.proofs.next_down.Goals.{Start}
 

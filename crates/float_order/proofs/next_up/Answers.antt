@@ -5,7 +5,7 @@ use Prim.Native.Nat.{ℕ}
 use borrow.Author.Rules.{rules}
 use lib.Dec.{T}
 use lib.Ieee.{binary64, fits, nan_bits, of_bits}
-use Rattle.float_order.specs.Bits.{is-num, up-nan, up-num, up-good}
+use Rattle.float_order.proofs.Bits.{is-num, up-nan, up-num, up-good}
 use Rattle.float_order.proofs.next_up.Goals as goal
 use Rattle.float_order.proofs.next_up.Goals.{Start}
 

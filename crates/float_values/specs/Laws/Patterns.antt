@@ -9,7 +9,7 @@ use Rattle.std.specs.Float.Ieee.{odd, round, of_fields, of_bits, to_bits, fits, 
 use Rattle.std.specs.Float.Ieee.Bits.{cond_no, of_bits-to_bits, to_bits-lt, to_bits-of_bits, nan_bits_is, nan_bits_above}
 use Rattle.std.specs.Float.Ieee.Exact.{HasValue, odd_sign, round_exact}
 use Rattle.float_order.specs.Next.{INF, TOP}
-use Rattle.float_order.specs.Bits.{pattern-no-nan}
+use Rattle.float_order.proofs.Bits.{pattern-no-nan}
 use Rattle.float_values.specs.Value.{ONE}
 use Rattle.float_values.specs.Laws.Small.{le-or-lt}
 

@@ -1,6 +1,6 @@
 -- `image_bytes::bits_of` meets its contract: what differs from itself is not a number. Assumes nothing.
 use mathlib.Core.Path.{refl}
-use Rattle.float_order.specs.Bits.{is-num}
+use Rattle.float_order.proofs.Bits.{is-num}
 use Rattle.image_bytes.specs.Patterns.{nan-bits}
 use Rattle.image_bytes.proofs.bits_of.Goals as goal
 

@@ -1,7 +1,7 @@
 -- `image_bytes::float_of` meets its contract: what is above an infinity's pattern is not a number's. Assumes nothing.
 use native.Mathlib.Omega.{arith}
 use mathlib.Core.Path.{refl}
-use Rattle.float_order.specs.Bits.{pattern-no-nan}
+use Rattle.float_order.proofs.Bits.{pattern-no-nan}
 use Rattle.image_bytes.specs.Patterns.{nan-float}
 use Rattle.image_bytes.proofs.float_of.Goals as goal
 

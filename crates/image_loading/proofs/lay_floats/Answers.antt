@@ -6,7 +6,8 @@ use mathlib.Core.List.{List}
 use lib.ListN.{length, take, drop}
 use lib.Ieee.{Float}
 use Rattle.memory_layout.specs.Layout.{real_strides, word, real_at, reals_of}
-use Rattle.memory_layout.specs.Laws.{capacity-le, record-inside, reals-length}
+use Rattle.memory_layout.specs.Laws.{capacity-le, record-inside}
+use Rattle.memory_layout.proofs.Laws.{reals-length}
 use Rattle.memory_writes.specs.Put.{over, put_reals}
 use Rattle.memory_writes.specs.Over.{taken_back}
 use borrow.Author.Rules.{rules}

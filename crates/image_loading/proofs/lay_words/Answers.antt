@@ -5,7 +5,8 @@ use mathlib.Core.Path.{◌≡◌, sym, ap, ap₂, ◌∙◌}
 use mathlib.Core.List.{List}
 use lib.ListN.{length, take, drop}
 use Rattle.memory_layout.specs.Layout.{word_strides, word, word_at, words_of}
-use Rattle.memory_layout.specs.Laws.{capacity-le, record-inside, words-length}
+use Rattle.memory_layout.specs.Laws.{capacity-le, record-inside}
+use Rattle.memory_layout.proofs.Laws.{words-length}
 use Rattle.memory_writes.specs.Put.{over, put_words}
 use Rattle.memory_writes.specs.Over.{taken_back}
 use Rattle.image_format.specs.Fields.{fields_in}

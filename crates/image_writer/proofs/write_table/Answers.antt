@@ -6,7 +6,8 @@ use mathlib.Core.List.{List}
 use lib.Ieee.{Float}
 use lib.ListN.{length, take, drop}
 use Rattle.memory_layout.specs.Layout.{word, word_at, real_at}
-use Rattle.memory_layout.specs.TableRows.{rest, table-begins}
+use Rattle.memory_layout.specs.TableRows.{rest}
+use Rattle.memory_layout.proofs.TableRows.{table-begins}
 use Rattle.memory_writes.specs.Put.{over}
 use Rattle.image_format.specs.Bytes.{words}
 use Rattle.image_writer.specs.Rows.{rows_image}

@@ -2,7 +2,8 @@
 use native.Mathlib.Omega.{arith}
 use mathlib.Core.Path.{ap, ◌∙◌}
 use lib.ListN.{length}
-use Rattle.memory_layout.specs.Laws.{words-length, words_inside}
+use Rattle.memory_layout.specs.Laws.{words_inside}
+use Rattle.memory_layout.proofs.Laws.{words-length}
 use Rattle.walk_sources.specs.Laws.{used-words}
 use Rattle.walk_sources.specs.Sources.{fin_edge}
 use Rattle.inquire_fin_starts.specs.Starts.{start_number}

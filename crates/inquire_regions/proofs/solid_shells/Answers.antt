@@ -6,7 +6,8 @@ use lib.Dec.{eqb}
 use lib.ListN.{length}
 use borrow.Author.Tests.{eq-eqb, ne_eqb}
 use Rattle.memory_layout.specs.Layout.{word}
-use Rattle.memory_layout.specs.Laws.{words-length, words_inside}
+use Rattle.memory_layout.specs.Laws.{words_inside}
+use Rattle.memory_layout.proofs.Laws.{words-length}
 use Rattle.inquire_regions.specs.Regions.{solid_shells}
 use borrow.Author.Rules.{rules}
 use Rattle.inquire_regions.proofs.solid_shells.Goals as goal

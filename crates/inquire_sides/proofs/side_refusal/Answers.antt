@@ -2,7 +2,8 @@
 use native.Mathlib.Omega.{arith}
 use mathlib.Core.Path.{sym, ap, ◌∙◌}
 use lib.ListN.{length}
-use Rattle.memory_layout.specs.Laws.{words-length, words_inside}
+use Rattle.memory_layout.specs.Laws.{words_inside}
+use Rattle.memory_layout.proofs.Laws.{words-length}
 use Rattle.geom_lines_planes.specs.Refuse.{◌then◌}
 use Rattle.memory_layout.specs.Layout.{words_of}
 use Rattle.split_segment.specs.Laws.{refuses}

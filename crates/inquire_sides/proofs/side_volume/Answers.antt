@@ -3,7 +3,8 @@ use Rattle.inquire_sides.specs.Sides.{is_at, rim_of}
 use native.Mathlib.Omega.{arith}
 use mathlib.Core.Path.{ap, ◌∙◌}
 use lib.ListN.{length}
-use Rattle.memory_layout.specs.Laws.{words-length, lists_of, words_inside}
+use Rattle.memory_layout.specs.Laws.{lists_of, words_inside}
+use Rattle.memory_layout.proofs.Laws.{words-length}
 use Rattle.memory_layout.specs.Decode.{decode}
 use mathlib.Core.List.{map}
 use Rattle.meaning.specs.Inquire.{polygon_volume}

@@ -8,7 +8,8 @@ use Rattle.meaning.specs.Lists.{joined}
 use Rattle.meaning.specs.Inquire.{is_solid}
 use Rattle.memory_layout.specs.Layout.{word, words_of}
 use Rattle.memory_layout.specs.Decode.{decode, kind_of}
-use Rattle.memory_layout.specs.Laws.{words-length, lists_of, words_inside}
+use Rattle.memory_layout.specs.Laws.{lists_of, words_inside}
+use Rattle.memory_layout.proofs.Laws.{words-length}
 use Rattle.inquire_regions.specs.Regions.{tally_of, region_sides}
 use Rattle.inquire_regions.specs.Whole.{regions-whole}
 use Rattle.inquire_tally.specs.Laws.{not-solid, solid-tallied}

@@ -1,7 +1,8 @@
 -- `inquire_weight::whole_side` meets its contract. Assumes nothing.
 use Rattle.std.proofs.Common.{map, length, ap, ◌∙◌, arith}
 use Rattle.meaning_sheets.specs.Sheets.{corner, whole_polygon}
-use Rattle.memory_layout.specs.Laws.{words-length, lists_of, words_inside}
+use Rattle.memory_layout.specs.Laws.{lists_of, words_inside}
+use Rattle.memory_layout.proofs.Laws.{words-length}
 use Rattle.memory_layout.specs.Decode.{decode}
 use Rattle.inquire_fan.specs.Fan.{turned}
 use Rattle.inquire_fin_starts.specs.Starts.{start_point}

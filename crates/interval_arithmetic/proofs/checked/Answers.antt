@@ -1,7 +1,7 @@
 -- `interval_arithmetic::checked` meets its contract: each arm returns what `checked_i` picks where its tests are as the arm found them. Assumes nothing.
 use mathlib.Core.Path.{sym, ◌∙◌}
 use lib.Ieee.{div, neg, of_bits}
-use Rattle.float_order.specs.Bits.{ne-self}
+use Rattle.float_order.proofs.Bits.{ne-self}
 use Rattle.interval_arithmetic.proofs.checked.Goals as goal
 
 pub returns-then-lo : goal.returns-then-lo

@@ -10,7 +10,7 @@ use Rattle.std.specs.Float.Ieee.Bits.{of_bits-fits}
 use Rattle.interval_arithmetic.specs.declared.Interval.{Interval}
 use Rattle.float_order.specs.Next.{up_bits, down_bits, next_up, next_down}
 use Rattle.float_exact.specs.Exact.{exact_sum}
-use Rattle.float_exact.specs.Laws.{exact-finite, exact-adds}
+use Rattle.float_exact.proofs.Laws.{exact-finite, exact-adds}
 use Rattle.interval_arithmetic.specs.Ops.{entire, checked_i, point_i, low_sum, high_sum, add_i, sub_i, neg_i}
 use Rattle.float_values.specs.Value.{ONE}
 use Rattle.float_values.specs.Laws.Pairs.{plus, minus, Lower, Upper}

@@ -6,7 +6,8 @@ use Rattle.memory_layout.specs.Layout.{word}
 use Rattle.memory_layout.specs.Decode.{list_at}
 use Rattle.memory_layout.specs.Entries.{list_places, list_of}
 use Rattle.memory_layout.specs.Fit.{Held}
-use Rattle.memory_layout.specs.Laws.{list_inside, list_held}
+use Rattle.memory_layout.specs.Laws.{list_inside}
+use Rattle.memory_layout.proofs.Laws.{list_held}
 use borrow.Author.Rules.{rules}
 use Rattle.memory_lists.proofs.list.Goals as goal
 

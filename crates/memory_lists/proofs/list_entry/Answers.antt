@@ -8,7 +8,8 @@ use Rattle.meaning_list_laws.specs.Tests.{refused-answer}
 use Rattle.memory_layout.specs.declared.entries.Entry.TheVariants.{Is, Refused}
 use Rattle.memory_layout.specs.Layout.{word}
 use Rattle.memory_layout.specs.Entries.{list_of, entry_refusal, entry_answer}
-use Rattle.memory_layout.specs.Laws.{lists_of, listed_le, limit-le, entry-standing}
+use Rattle.memory_layout.specs.Laws.{lists_of, limit-le, entry-standing}
+use Rattle.memory_layout.proofs.Laws.{listed_le}
 use borrow.Author.Rules.{rules}
 use Rattle.memory_lists.proofs.list_entry.Goals as goal
 

@@ -3,7 +3,8 @@ use mathlib.Core.Path.{◌∙◌}
 use native.Mathlib.Omega.{arith}
 use Rattle.memory_layout.specs.Layout.{word_strides}
 use Rattle.memory_layout.specs.Laws.{before-tables}
-use Rattle.memory_layout.specs.TableRows.{rest, table-rows, table-begins, rows-table}
+use Rattle.memory_layout.specs.TableRows.{rest, rows-table}
+use Rattle.memory_layout.proofs.TableRows.{table-rows, table-begins}
 use borrow.Author.Rules.{rules}
 use Rattle.memory_readable.proofs.table_ok.Goals as goal
 

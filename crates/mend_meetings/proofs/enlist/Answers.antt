@@ -4,7 +4,7 @@ use mathlib.Core.Path.{refl, sym, ap, ◌∙◌}
 use Prim.Native.Nat.{◌+◌}
 use lib.ListN.{length, set}
 use Rattle.memory_layout.specs.Layout.{word}
-use Rattle.memory_layout.specs.Laws.{listed_le}
+use Rattle.memory_layout.proofs.Laws.{listed_le}
 use Rattle.mend_meetings.specs.Facts.{model_of}
 use Rattle.mend_meetings.specs.Laws.{fins-of, edge-there, edge_few, enlist-none, enlist-full, enlist-one}
 use borrow.Author.Rules.{rules}

@@ -4,7 +4,8 @@ use mathlib.Core.Path.{◌≡◌, sym, ap, ◌∙◌, subst}
 use Prim.Native.Nat.{ℕ}
 use lib.ListN.{length}
 use Rattle.memory_layout.specs.Layout.{word, words_of}
-use Rattle.memory_layout.specs.Laws.{words_inside, words-length}
+use Rattle.memory_layout.specs.Laws.{words_inside}
+use Rattle.memory_layout.proofs.Laws.{words-length}
 use Rattle.meaning_mends.specs.Mends.{Child, named, child_table}
 use Rattle.mend_meetings.specs.Machine.{Goes, logged}
 use Rattle.mend_meetings.specs.Facts.{model_of}

@@ -7,7 +7,8 @@ use lib.ListN.{length}
 use borrow.Author.Tests.{eq-eqb, ne_eqb, lt-ltb, le-ltb}
 use Rattle.memory_layout.specs.Layout.{word, words_of}
 use Rattle.memory_layout.specs.Entries.{list_of}
-use Rattle.memory_layout.specs.Laws.{version-there, words_inside, words-length}
+use Rattle.memory_layout.specs.Laws.{version-there, words_inside}
+use Rattle.memory_layout.proofs.Laws.{words-length}
 use Rattle.split_foreign.specs.Status.{greatest, standing}
 use Rattle.mend_tests.specs.Status.{followed, follows}
 use Rattle.mend_tests.specs.Laws.{followed-list, followed-table}

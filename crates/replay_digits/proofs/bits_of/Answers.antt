@@ -1,5 +1,5 @@
 -- `replay_digits::bits_of` is safe: what is not unlike itself is no NaN. Assumes nothing.
-use Rattle.float_order.specs.Bits.{is-num}
+use Rattle.float_order.proofs.Bits.{is-num}
 use borrow.Author.Rules.{rules}
 use Rattle.replay_digits.proofs.bits_of.Goals as goal
 

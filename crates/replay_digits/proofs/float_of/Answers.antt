@@ -1,5 +1,5 @@
 -- `replay_digits::float_of` is safe: up to the infinity's, a pattern with the sign's bit taken off is no NaN's. Assumes nothing.
-use Rattle.float_order.specs.Bits.{pattern-no-nan}
+use Rattle.float_order.proofs.Bits.{pattern-no-nan}
 use borrow.Author.Rules.{rules}
 use Rattle.replay_digits.proofs.float_of.Goals as goal
 

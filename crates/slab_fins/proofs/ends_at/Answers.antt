@@ -1,5 +1,6 @@
 -- `slab_fins::ends_at` meets its contract. Assumes nothing.
-use Rattle.memory_layout.specs.Laws.{words-length, words_inside}
+use Rattle.memory_layout.specs.Laws.{words_inside}
+use Rattle.memory_layout.proofs.Laws.{words-length}
 use Rattle.walk_sources.specs.Sources.{fin_edge}
 use mathlib.Core.Path.{ap, ◌∙◌}
 use lib.ListN.{length}

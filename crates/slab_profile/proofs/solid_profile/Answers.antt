@@ -8,7 +8,8 @@ use borrow.Author.Tests.{not-true, not-false}
 use Rattle.meaning.specs.Inquire.{is_solid}
 use Rattle.memory_layout.specs.Layout.{word, words_of}
 use Rattle.memory_layout.specs.Decode.{decode, kind_of}
-use Rattle.memory_layout.specs.Laws.{lists_of, words-length, words_inside}
+use Rattle.memory_layout.specs.Laws.{lists_of, words_inside}
+use Rattle.memory_layout.proofs.Laws.{words-length}
 use Rattle.slab_profile.specs.Laws.{told-refused, told_same, solid-not, solid-is}
 use borrow.Author.Rules.{rules}
 use native.Mathlib.Omega.{arith}

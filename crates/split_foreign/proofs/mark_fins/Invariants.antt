@@ -6,7 +6,8 @@ use mathlib.Core.Path.{◌≡◌, refl, ap, ◌∙◌}
 use lib.ListN.{length, length-set}
 use lib.Dec.{eqb}
 use Rattle.meaning.specs.Formed.{bit}
-use Rattle.memory_layout.specs.Laws.{version-there, words_inside, words-length}
+use Rattle.memory_layout.specs.Laws.{version-there, words_inside}
+use Rattle.memory_layout.proofs.Laws.{words-length}
 use Rattle.split_foreign.specs.Status.{fin_status}
 use Rattle.split_foreign.specs.Laws.{rows_none, rows_more}
 use Rattle.memory_layout.specs.Layout.{word}

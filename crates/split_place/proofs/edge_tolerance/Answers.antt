@@ -5,7 +5,8 @@ use mathlib.Core.Path.{◌≡◌, ap, ◌∙◌}
 use lib.ListN.{length}
 use Rattle.memory_layout.specs.Decode.{decode}
 use Rattle.memory_records.specs.Laws.{counts-there}
-use Rattle.memory_layout.specs.Laws.{used-inside, words-length, reals-length, precision-there}
+use Rattle.memory_layout.specs.Laws.{used-inside, precision-there}
+use Rattle.memory_layout.proofs.Laws.{words-length, reals-length}
 use Rattle.split_place.specs.Place.{tolerance_at}
 use Rattle.split_place.proofs.edge_tolerance.Goals as goal
 

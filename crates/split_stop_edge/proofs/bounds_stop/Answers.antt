@@ -6,7 +6,8 @@ use Rattle.split_stop_parts.specs.Told.{first_told}
 use Rattle.split_stop_parts.specs.declared.Stop.{Stop}
 use Rattle.split_segment.specs.Segment.{segment_at}
 use Rattle.memory_records.specs.Laws.{within}
-use Rattle.memory_layout.specs.Laws.{used-inside, words-length}
+use Rattle.memory_layout.specs.Laws.{used-inside}
+use Rattle.memory_layout.proofs.Laws.{words-length}
 use Rattle.memory_layout.specs.Decode.{decode}
 use Rattle.memory_layout.specs.Layout.{words_of}
 use Rattle.meaning.specs.Model.{Model, edge}

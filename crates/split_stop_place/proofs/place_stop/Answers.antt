@@ -1,5 +1,5 @@
 -- `split_stop_place::place_stop` meets its contract. Assumes nothing.
-use Rattle.memory_layout.specs.Laws.{listed_le}
+use Rattle.memory_layout.proofs.Laws.{listed_le}
 use Rattle.split_stop_place.specs.Laws.{place-told}
 use Rattle.split_stop_place.specs.PlaceRows.{point_told}
 use Rattle.split_stop_edge.specs.Laws.{ends-given}
@@ -8,7 +8,8 @@ use Rattle.split_place.specs.Laws.{opened, cut-same}
 use Rattle.split_fin_tests.specs.FinTests.{cut_at}
 use Rattle.split_segment.specs.Segment.{segment_at}
 use Rattle.memory_records.specs.Laws.{within}
-use Rattle.memory_layout.specs.Laws.{lists_of, precision-there, used-inside, words-length, edge-fins}
+use Rattle.memory_layout.specs.Laws.{lists_of, precision-there, used-inside, edge-fins}
+use Rattle.memory_layout.proofs.Laws.{words-length}
 use Rattle.memory_layout.specs.Decode.{decode}
 use Rattle.memory_layout.specs.Layout.{real}
 use Rattle.meaning_stops.specs.Splits.{row11, row11-fins}

@@ -3,7 +3,8 @@ use Rattle.split_stop_room.specs.Laws.{room-told}
 use Rattle.split_stop_room.specs.RoomRows.{tables_told, loop_part}
 use Rattle.split_stop_parts.specs.Told.{first_told, row_told}
 use Rattle.split_place.specs.Laws.{opened, owned}
-use Rattle.memory_layout.specs.Laws.{lists_of, listed_le}
+use Rattle.memory_layout.specs.Laws.{lists_of}
+use Rattle.memory_layout.proofs.Laws.{listed_le}
 use lib.ListN.{length}
 use lib.Dec.{lit<}
 use mathlib.Core.List.{List, map}

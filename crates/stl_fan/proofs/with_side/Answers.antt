@@ -5,7 +5,8 @@ use mathlib.Core.Path.{refl, ap, ◌∙◌}
 use mathlib.Core.List.{map}
 use lib.ListN.{length}
 use borrow.Author.Rules.{rules}
-use Rattle.memory_layout.specs.Laws.{words-length, lists_of, words_inside}
+use Rattle.memory_layout.specs.Laws.{lists_of, words_inside}
+use Rattle.memory_layout.proofs.Laws.{words-length}
 use Rattle.memory_layout.specs.Decode.{decode}
 use Rattle.inquire_fan.specs.Fan.{turned}
 use Rattle.inquire_fin_starts.specs.Starts.{start_point}

@@ -9,7 +9,8 @@ use Rattle.meaning.specs.Lists.{all}
 use Rattle.meaning.specs.Inquire.{Side}
 use Rattle.walk_marks.specs.Laws.{all-nth}
 use Rattle.memory_layout.specs.Decode.{decode}
-use Rattle.memory_layout.specs.Laws.{lists_of, listed_le}
+use Rattle.memory_layout.specs.Laws.{lists_of}
+use Rattle.memory_layout.proofs.Laws.{listed_le}
 use Rattle.inquire_sides.specs.Sides.{face_whole}
 use Rattle.inquire_regions.specs.Regions.{faces_whole}
 use Rattle.inquire_regions.specs.Laws.{faces-turn, sides-list}

@@ -6,7 +6,8 @@ use borrow.Author.Rules.{rules}
 use Rattle.meaning.specs.Lists.{joined}
 use Rattle.meaning.specs.Inquire.{Side, sides_refusal}
 use Rattle.memory_layout.specs.Decode.{decode}
-use Rattle.memory_layout.specs.Laws.{lists_of, listed_le}
+use Rattle.memory_layout.specs.Laws.{lists_of}
+use Rattle.memory_layout.proofs.Laws.{listed_le}
 use Rattle.inquire_regions.specs.Regions.{region_sides}
 use Rattle.inquire_regions.specs.Whole.{regions-whole}
 use Rattle.stl_fan.specs.Pens.{Drawn}

@@ -7,7 +7,8 @@ use lib.ListN.{length, get_or, take, length-map}
 use lib.Seq.{take_all}
 use Rattle.meaning_list_laws.specs.Lists.{below-nth}
 use Rattle.memory_layout.specs.Layout.{word}
-use Rattle.memory_layout.specs.Laws.{words-length, words_inside}
+use Rattle.memory_layout.specs.Laws.{words_inside}
+use Rattle.memory_layout.proofs.Laws.{words-length}
 use Rattle.walk_marks.specs.Laws.{map-nth, puts_none, puts-turn}
 use Rattle.walk_marks.specs.Marks.{puts}
 use Rattle.walk_sources.specs.Sources.{fin_edge}

@@ -5,7 +5,8 @@ use mathlib.Core.List.{map}
 use native.Mathlib.Omega.{arith}
 use borrow.Author.Rules.{rules}
 use lib.ListN.{length}
-use Rattle.memory_layout.specs.Laws.{words-length, words_inside}
+use Rattle.memory_layout.specs.Laws.{words_inside}
+use Rattle.memory_layout.proofs.Laws.{words-length}
 use Rattle.walk_sources.specs.Sources.{fin_edge, ends_in}
 use Rattle.walk_sources.specs.Laws.{list-short, source-slot, source-kind, source-fins, part-ends, part-fins, part-list, took-same, took-ids, took-fins}
 use Rattle.walk_sources.proofs.part.Goals as goal

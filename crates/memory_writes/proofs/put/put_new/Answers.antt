@@ -4,7 +4,8 @@ use native.Mathlib.Omega.{arith}
 use mathlib.Core.Path.{◌≡◌}
 use lib.ListN.{length}
 use Rattle.memory_layout.specs.Layout.{word_strides, word, word_at, words_of}
-use Rattle.memory_layout.specs.Laws.{capacity-le, record-inside, words-length}
+use Rattle.memory_layout.specs.Laws.{capacity-le, record-inside}
+use Rattle.memory_layout.proofs.Laws.{words-length}
 use Rattle.memory_writes.specs.Put.{put_words, new_words}
 use Rattle.memory_writes.specs.Over.{taken_back}
 use Rattle.memory_writes.specs.Frame.{new-length}

@@ -8,7 +8,8 @@ use lib.ListN.{length}
 use borrow.Author.Tests.{lt-ltb, le-ltb}
 use Rattle.memory_layout.specs.Layout.{word}
 use Rattle.memory_layout.specs.Decode.{decode}
-use Rattle.memory_layout.specs.Laws.{used-inside, words-length}
+use Rattle.memory_layout.specs.Laws.{used-inside}
+use Rattle.memory_layout.proofs.Laws.{words-length}
 use Rattle.memory_records.specs.Laws.{counts-there}
 use Rattle.split_bounds.specs.EndsLaws.{ends-tests}
 use Rattle.split_bounds.proofs.ends.ends_refusal.Goals as goal

@@ -3,7 +3,8 @@ use native.Mathlib.Omega.{arith}
 use mathlib.Core.Path.{◌≡◌, ap, ◌∙◌}
 use lib.Dec.{lit<}
 use lib.ListN.{length}
-use Rattle.memory_layout.specs.Laws.{used-inside, words-length}
+use Rattle.memory_layout.specs.Laws.{used-inside}
+use Rattle.memory_layout.proofs.Laws.{words-length}
 use Rattle.split_segment.specs.Segment.{segment_at}
 use Rattle.memory_records.specs.Laws.{within}
 use Rattle.split_bounds.specs.EndsLaws.{ended}

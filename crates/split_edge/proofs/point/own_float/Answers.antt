@@ -1,4 +1,5 @@
-use Rattle.memory_layout.specs.Laws.{used-inside, reals-length}
+use Rattle.memory_layout.specs.Laws.{used-inside}
+use Rattle.memory_layout.proofs.Laws.{reals-length}
 use Rattle.memory_layout.specs.Layout.{real}
 use lib.ListN.{length}
 use mathlib.Core.Path.{ap, ◌∙◌}

@@ -6,7 +6,8 @@ use lib.Dec.{ltb}
 use lib.ListN.{length}
 use borrow.Author.Tests.{lt-ltb, le-ltb}
 use Rattle.memory_layout.specs.Layout.{word}
-use Rattle.memory_layout.specs.Laws.{used-inside, words-length}
+use Rattle.memory_layout.specs.Laws.{used-inside}
+use Rattle.memory_layout.proofs.Laws.{words-length}
 use Rattle.memory_records.specs.Laws.{counts-there}
 use Rattle.split_fin_tests.specs.FaceTests.{face_test}
 use borrow.Author.Rules.{rules}

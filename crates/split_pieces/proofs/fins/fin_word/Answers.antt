@@ -1,5 +1,6 @@
 use Rattle.split_pieces.specs.Pieces.{fin_word}
-use Rattle.memory_layout.specs.Laws.{words-length, words_inside}
+use Rattle.memory_layout.specs.Laws.{words_inside}
+use Rattle.memory_layout.proofs.Laws.{words-length}
 use Rattle.memory_layout.specs.Layout.{word}
 use lib.ListN.{length}
 use mathlib.Core.Path.{ap, ◌∙◌}

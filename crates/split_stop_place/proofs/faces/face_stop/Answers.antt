@@ -2,7 +2,8 @@
 use Rattle.split_stop_place.specs.FinRows.{face_told}
 use Rattle.split_stop_parts.specs.Laws.{part-stops, part-passes}
 use Rattle.memory_records.specs.Laws.{within, counts-there}
-use Rattle.memory_layout.specs.Laws.{used-inside, words-length}
+use Rattle.memory_layout.specs.Laws.{used-inside}
+use Rattle.memory_layout.proofs.Laws.{words-length}
 use Rattle.memory_layout.specs.Layout.{word}
 use borrow.Author.Tests.{lt-ltb, le-ltb}
 use lib.ListN.{length}

@@ -20,7 +20,7 @@ use Rattle.interval_narrowing.specs.Laws.Numbers.{reach, sides-to}
 use Rattle.float_values.specs.Laws.Adjacent.{ninf-le}
 use Rattle.interval_narrowing.specs.Laws.Order.{trans_le, total-le, zero-num, neg-le}
 use Rattle.interval_narrowing.specs.Laws.Ends.{bound, bound-is, bound-num, bound-turned, down-stay, up-stay, down_step, up_step, Pair, checked-within, top, bottom}
-use Rattle.interval_narrowing.specs.Laws.Sums.{low-in, high-in}
+use Rattle.interval_narrowing.proofs.Laws.Sums.{low-in, high-in}
 use Rattle.interval_narrowing.specs.Laws.Extremes.{nan-or-num, Any, least4-under, greatest4-over, least4-of, greatest4-of, ordered-self, ordered, ordered-bound}
 use Rattle.interval_narrowing.specs.Laws.Times.{unlike-swap, times, times-swap, times-le, times-ge, times-num, mul_is, mul_low}
 

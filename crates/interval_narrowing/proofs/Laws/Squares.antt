@@ -19,7 +19,7 @@ use Rattle.interval_narrowing.specs.Laws.Rounding.{rounds-le}
 use Rattle.interval_narrowing.specs.Laws.Ends.{bound-le, down_le, up_le, down-mono, up-mono, checked-within}
 use Rattle.interval_narrowing.specs.Laws.Extremes.{least_first, least-second, greatest-first, greatest-second, least-both, greatest-both}
 use Rattle.interval_narrowing.specs.Laws.Times.{times, times-swap, times-le, mul_is}
-use Rattle.interval_narrowing.specs.Laws.Sums.{low-in, high-in, wide}
+use Rattle.interval_narrowing.proofs.Laws.Sums.{low-in, high-in, wide}
 
 abbrev square : Float → Float
 square x = mul binary64 x x

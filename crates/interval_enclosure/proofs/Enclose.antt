@@ -24,7 +24,7 @@ use Rattle.interval_enclosure.specs.Laws.Sums.{in-add, in-sub, in-neg, in-point}
 use Rattle.interval_enclosure.specs.Laws.Products.{in-mul}
 use Rattle.interval_enclosure.specs.Laws.Squares.{in-sqr, sign-says}
 use Rattle.float_values.specs.Laws.Integers.{sum-parts, diff-parts, neg-parts, product-parts, over-scaled, under-scaled, over-value, under-value}
-use Rattle.interval_enclosure.specs.Laws.Integers.{to_in, of-in, in-rescaled, says-sign}
+use Rattle.interval_enclosure.proofs.Laws.Integers.{to_in, of-in, in-rescaled, says-sign}
 
 pub add-encloses : (k : ℕ) (x y : Interval) (A B : ℤ) → Holds k x A → Holds k y B → Holds k (add_i x y) (A +ℤ B)
 add-encloses k x y A B h g =
@@ -80,19 +80,6 @@ point-holds a r = at-1074 (point_i a) a (in-point a (and_l (fits binary64 a) (fi
 pub point3-holds : (v : Vec3) → RealV v → Holds3 1074 (point_i3 v) (value_v v)
 unfolding point_i3
 point3-holds v r = record { x = point-holds v.x r.x; y = point-holds v.y r.y; z = point-holds v.z r.z }
-
-pub difference-holds : (a b : Float) → Real a → Real b → Holds 1074 (difference_i a b) (value a -ℤ value b)
-unfolding difference_i
-difference-holds a b f g = sub-encloses 1074 (point_i a) (point_i b) (value a) (value b) (point-holds a f) (point-holds b g)
-
-pub vector-holds : (p q : Point3) → RealP p → RealP q → Holds3 1074 (vector_i p q) (minus_w (value_p p) (value_p q))
-unfolding vector_i
-vector-holds p q f g =
-    record {
-      x = difference-holds p.x q.x f.x g.x;
-      y = difference-holds p.y q.y f.y g.y;
-      z = difference-holds p.z q.z f.z g.z;
-    }
 
 pub dot-encloses : (j k : ℕ) (a b : Interval3) (A B : Whole3) → Holds3 j a A → Holds3 k b B → Holds (j + k) (dot_i a b) (dot_w A B)
 unfolding dot_i

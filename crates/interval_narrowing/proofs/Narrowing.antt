@@ -17,9 +17,9 @@ use Rattle.interval_narrowing.specs.Narrow.{Sound, Within, Within3, never, add_b
 use Rattle.interval_narrowing.specs.Laws.Order.{refl-le}
 use Rattle.interval_narrowing.specs.Laws.Ends.{bound-is, bound-refl, checked-within}
 use Rattle.interval_narrowing.specs.Laws.Ends as Ends
-use Rattle.interval_narrowing.specs.Laws.Sums as Sums
-use Rattle.interval_narrowing.specs.Laws.Products as Products
-use Rattle.interval_narrowing.specs.Laws.Squares as Squares
+use Rattle.interval_narrowing.proofs.Laws.Sums as Sums
+use Rattle.interval_narrowing.proofs.Laws.Products as Products
+use Rattle.interval_narrowing.proofs.Laws.Squares as Squares
 use Rattle.interval_narrowing.specs.Laws.Signs as Signs
 use Rattle.float_values.specs.Laws.Order.{le-nums}
 

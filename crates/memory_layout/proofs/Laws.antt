@@ -1,0 +1,41 @@
+-- Theorems that rest on those of specs/Laws.antt, and are proved by them. Assumes nothing.
+use Rattle.std.specs.Prelude.{ℕ, zero, suc, ◌+◌, ◌*◌, ◌≤◌, ◌<◌, ◌≡◌, refl, true, ◌&&◌, List, [], ◌∷◌, leb, ltb, length, get_or, take, drop, Float}
+use Rattle.std.proofs.Common.{zero-le, ap, inl, inr, le_of_eq, le_trans, lt_of_lt_of_le, eq-or-lt_of_le, mul-suc, mul-le-mul_left, mul-le-mul_right, arith, length-drop, length-take-le, leb-true, ltb-true}
+use Rattle.geom_lines_planes.specs.Refuse.{◌unless◌, ◌then◌}
+use Rattle.meaning.specs.Lists.{all_below}
+use Rattle.meaning.specs.Edits.{precision_ok}
+use Rattle.meaning.specs.Model.{edge}
+use Rattle.meaning_list_laws.specs.Tests.{and_both, every-at, all_below-at, then-zero, unless-zero}
+use Rattle.memory_layout.specs.Layout.{word_strides, real_strides, largest_tables, word, real, base, record_at, word_at, real_at, words_needed, reals_needed, words_of, reals_of}
+use Rattle.memory_layout.specs.Decode.{list_at, decode}
+use Rattle.memory_layout.specs.Readable.{own_ok, version_ok, record_ok, room_ok, counts_ok, table_ok, tables_ok, lent_ok, sized_ok, readable}
+use Rattle.memory_layout.specs.Entries.{list_tables, list_places, list_limits, list_of, entry_refusal}
+use Rattle.memory_layout.specs.Fit.{Small, Strides, Inside, Lent, Sized, Fit, Held, Lists}
+use Rattle.memory_layout.specs.Laws.{part_length, record-inside, list-room, list_inside}
+use Rattle.memory_layout.specs.Laws.{held-length}
+
+pub words-length : (room w : List ℕ) (k i : ℕ) → Inside (words_needed room) (length w) room k i → length (words_of room w k i) ≡ word word_strides k
+unfolding words_of
+words-length room w k i h =
+    part_length w (word_at room k i) (word word_strides k) (le_trans (record-inside 11 word_strides room k i h.table h.slot) h.enough)
+
+pub reals-length : (room : List ℕ) (x : List Float) (k i : ℕ) → Inside (reals_needed room) (length x) room k i → length (reals_of room x k i) ≡ word real_strides k
+unfolding reals_of
+reals-length room x k i h =
+    part_length x (real_at room k i) (word real_strides k) (le_trans (record-inside 1 real_strides room k i h.table h.slot) h.enough)
+
+pub list_held : (room w : List ℕ) (j i : ℕ) → Lists room w → j < 8 → i < word w (word list_tables j)
+    → Held (words_of room w (word list_tables j) i) (word list_places j)
+list_held room w j i f h g =
+    let n = words-length room w (word list_tables j) i (list_inside room w j i f h g) in
+    let r = list-room j h in
+    let s = f.short j i h g in
+    record { place = omega arith; whole = omega arith }
+
+-- and no more than its limit
+pub listed_le : (room w : List ℕ) (j i : ℕ) → Lists room w → j < 8 → i < word w (word list_tables j) → length (list_of room w j i) ≤ word list_limits j
+unfolding list_of
+listed_le room w j i f h g =
+    let e = held-length (words_of room w (word list_tables j) i) (word list_places j) (list_held room w j i f h g) in
+    let s = f.short j i h g in
+    omega arith
