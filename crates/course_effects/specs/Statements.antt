@@ -1,12 +1,11 @@
 -- What the edits of a course table do to the courses that it holds (W-213), where they are not refused. Assumes nothing.
-use Rattle.std.specs.Prelude.{ℕ, suc, ◌+◌, ◌*◌, ◌≤◌, ◌<◌, true, ◌≡◌, refl, length, set, take, drop}
+use Rattle.std.specs.Prelude.{ℕ, suc, ◌+◌, ◌*◌, ◌≤◌, ◌<◌, ◌≡◌, refl, length, set, take, drop}
 use Rattle.std.proofs.Math.Decide.{dec_lt}
 use Rattle.std.proofs.Common.{arith, sym, ◌∙◌, length-append, length-set, length-drop, length-take-le}
 use Rattle.std.proofs.Math.Path.{ap}
 use mathlib.Core.List.{List, [], ◌∷◌, map}
 use Rattle.std.proofs.Math.Seq.{get_or-set_same}
 use Rattle.geom_lines_planes.specs.Refuse.{◌unless◌}
-use Rattle.meaning.specs.Edits.{appended}
 use Rattle.meaning_list_laws.specs.Tests.{then-zero, unless-zero}
 use Rattle.memory_writes.specs.Over.{one_store}
 use Rattle.memory_layout.specs.Layout.{word}
@@ -16,8 +15,8 @@ use Rattle.edit_lists.specs.Place.{struck, with_list}
 use Rattle.edit_lists.specs.Records.{word-before, list-there, list-before, list-behind}
 use Rattle.course_table.specs.Table.{course_at, entry_of, courses_in, courses_ok}
 use Rattle.course_table.specs.Laws.{laid_of}
-use Rattle.course_edits.specs.Answers.{entry_good, entry_word, make_number, made_words, insert_number, inserted_words, append_number, appended_words, put_number, put_words, strike_number, struck_words}
-use Rattle.course_edits.specs.Laws.{Open, is_open, place-open, place-there, room_open, room-there, insert-room}
+use Rattle.course_edits.specs.Answers.{make_number, made_words, insert_number, inserted_words}
+use Rattle.course_edits.specs.Laws.{Open, insert-room}
 
 -- as many courses as before, course c with these entries, and every other as it was
 pub record Relaid (w w' : List ℕ) (c : ℕ) (l : List ℕ) : Type 0 where
@@ -30,10 +29,10 @@ module _ (w : List ℕ) (c : ℕ) (o : Open w c) where
   abbrev l : List ℕ
   l = list_at w (course_at c)
 
-  entries-length : length l ≡ word w (course_at c)
+  pub entries-length : length l ≡ word w (course_at c)
   entries-length = held-length w (course_at c) o.held
 
-  relaid : (k : List ℕ) → length k ≤ 16 → Relaid w (with_list (course_at c) k w) c k
+  pub relaid : (k : List ℕ) → length k ≤ 16 → Relaid w (with_list (course_at c) k w) c k
   unfolding courses_in
   relaid k few =
       let whole = o.lies.whole in
@@ -49,44 +48,13 @@ module _ (w : List ℕ) (c : ℕ) (o : Open w c) where
         | no more ↦ let whole = o.lies.whole in list-behind (course_at c) k w (omega arith) (course_at d) (omega arith)
       ]
 
--- an entry more at the end
-pub entry-appended : (w : List ℕ) (c tag id : ℕ) → append_number w c tag id ≡ 0 → Relaid w (appended_words w c tag id) c (appended (list_at w (course_at c)) (entry_word tag id))
-unfolding appended_words
-entry-appended w c tag id z =
-    let o = is_open w (entry_good tag id) c (room_open w (entry_good tag id) c z) in
-    let room = room-there w (entry_good tag id) c z in
-    let e = entries-length w c o in
-    let n = length-append (list_at w (course_at c)) (entry_word tag id ∷ []) in
-    rw z (relaid w c o (appended (list_at w (course_at c)) (entry_word tag id)) (omega arith))
-
--- another entry at a place
-pub entry-put : (w : List ℕ) (c p tag id : ℕ) → put_number w c p tag id ≡ 0 → Relaid w (put_words w c p tag id) c (set (list_at w (course_at c)) p (entry_word tag id))
-unfolding put_words
-entry-put w c p tag id z =
-    let o = is_open w (entry_good tag id) c (place-open w (entry_good tag id) c p z) in
-    let e = entries-length w c o in
-    let s = o.short in
-    let n = length-set (list_at w (course_at c)) p (entry_word tag id) in
-    rw z (relaid w c o (set (list_at w (course_at c)) p (entry_word tag id)) (omega arith))
-
-struck-few : (l : List ℕ) (p : ℕ) → p < length l → length (struck l p) ≤ length l
+pub struck-few : (l : List ℕ) (p : ℕ) → p < length l → length (struck l p) ≤ length l
 unfolding struck
 struck-few l p h =
     let n = length-append (take p l) (drop (suc p) l) in
     let a = length-take-le p l (omega arith) in
     let b = length-drop (suc p) l in
     omega arith
-
--- without the entry at a place
-pub entry-struck : (w : List ℕ) (c p : ℕ) → strike_number w c p ≡ 0 → Relaid w (struck_words w c p) c (struck (list_at w (course_at c)) p)
-unfolding struck_words
-entry-struck w c p z =
-    let o = is_open w true c (place-open w true c p z) in
-    let e = entries-length w c o in
-    let s = o.short in
-    let there = place-there w true c p z in
-    let n = struck-few (list_at w (course_at c)) p (omega arith) in
-    rw z (relaid w c o (struck (list_at w (course_at c)) p) (omega arith))
 
 -- a table that is made has no course
 pub table-made : (w : List ℕ) → make_number w ≡ 0 → 0 < length w → (courses_in (made_words w)).used ≡ 0

@@ -1,10 +1,9 @@
 -- The number that is found, level by level and entry by entry. Assumes nothing.
-use Rattle.std.specs.Prelude.{ℕ, suc, ◌+◌, ◌-◌, ◌≤◌, ◌<◌, ◌≡◌, Bool, ◌||◌, List, [], ◌∷◌, ◌++◌, map, Float, length, get_or, take}
+use Rattle.std.specs.Prelude.{ℕ, suc, ◌-◌, ◌≤◌, ◌<◌, ◌≡◌, Bool, ◌||◌, List, [], ◌∷◌, ◌++◌, map, Float}
 use native.Mathlib.Omega.{arith}
-use Rattle.std.proofs.Common.{add-one, sym, ap, ap₂, ◌∙◌, take-suc}
+use Rattle.std.proofs.Common.{◌∙◌}
 use Rattle.std.proofs.Math.Path.{refl}
 use Rattle.std.proofs.Math.Bool.{true, false, not}
-use Rattle.std.proofs.lemmas.List.{map-append}
 use borrow.Author.Tests.{le-ltb, lt-ltb}
 use Rattle.geom_lines_planes.specs.Refuse.{◌unless◌, ◌then◌}
 use Rattle.meaning.specs.Model.{Model}
@@ -69,7 +68,7 @@ module _ (m : Model) (o : ℕ) (t : Courses) (n : ℕ) where
   before false false false true = refl
   before false false false false = refl
 
-  one_found : (e : Entry) → entry_found m o t n e ≡ entries_found m o t n (e ∷ [])
+  pub one_found : (e : Entry) → entry_found m o t n e ≡ entries_found m o t n (e ∷ [])
   unfolding entry_found entries_found some_entry body_found course_found
   one_found (of_body b) = by (there m o b)
     where
@@ -78,18 +77,11 @@ module _ (m : Model) (o : ℕ) (t : Courses) (n : ℕ) where
       by false = refl
   one_found (of_course d) = rw (or-false (missing m o t n d), or-false (too_deep t n d))
 
-  both_found : (k l : List Entry) → worse (entries_found m o t n k) (entries_found m o t n l) ≡ entries_found m o t n (k ++ l)
+  pub both_found : (k l : List Entry) → worse (entries_found m o t n k) (entries_found m o t n l) ≡ entries_found m o t n (k ++ l)
   unfolding entries_found
   both_found k l =
       before (some_entry (λ b. not (there m o b)) (λ d. missing m o t n d) k) (some_entry (λ b. not (there m o b)) (λ d. missing m o t n d) l) (some_entry (λ b. false) (λ d. too_deep t n d) k) (some_entry (λ b. false) (λ d. too_deep t n d) l)
       ∙ rw (some-append (λ b. not (there m o b)) (λ d. missing m o t n d) k l, some-append (λ b. false) (λ d. too_deep t n d) k l)
-
-  pub found_turn : (l : List ℕ) (k a r : ℕ) → k < length l → a ≡ entries_found m o t n (map entry_of (take k l)) → r ≡ entry_found m o t n (entry_of (get_or l k 0))
-      → worse a r ≡ entries_found m o t n (map entry_of (take (k + 1) l))
-  found_turn l k a r h e f =
-      ap₂ (λ (x y : ℕ). worse x y) e (f ∙ one_found (entry_of (get_or l k 0)))
-      ∙ both_found (map entry_of (take k l)) (entry_of (get_or l k 0) ∷ [])
-      ∙ ap (entries_found m o t n) (sym (map-append entry_of (take k l) (get_or l k 0 ∷ [])) ∙ ap (map entry_of) (sym (take-suc l k 0 h) ∙ ap (λ i. take i l) (sym (add-one k))))
 
 -- ---- an entry
 

@@ -1,34 +1,27 @@
 -- One law for all inserts and one for all edits: what is left of what the record reads as, and of its own test. Assumes nothing.
 use Prim.Native.Nat.{ℕ, zero, suc, ◌<◌}
-use Rattle.std.proofs.Math.Nat.{lt_of_lt_of_le}
 use Rattle.std.proofs.Common.{arith, sym, ap, ◌∙◌, subst, eqb-true, le-leb}
 use Rattle.std.specs.Prelude.{◌≡◌, refl, Bool, true, false, cond, ◌&&◌, eqb, Float}
 use Rattle.std.proofs.Math.Path.{fun_ext}
 use mathlib.Core.List.{List}
 use Rattle.std.proofs.Math.Dec.{ltb, leb}
-use Rattle.std.proofs.Math.ListN.{length}
 use Rattle.geom_lines_planes.specs.Refuse.{◌unless◌, ◌then◌}
 use Rattle.meaning.specs.Model.{Model, Table, changed}
 use Rattle.meaning.specs.Edits.{edited}
 use Rattle.meaning_list_laws.specs.Tests.{then-zero, unless-zero, and_both}
-use Rattle.memory_layout.specs.Layout.{word_strides, word, words_of}
+use Rattle.memory_layout.specs.Layout.{word, words_of}
 use Rattle.memory_layout.specs.Decode.{decode}
 use Rattle.memory_layout.specs.Readable as Readable
 use Rattle.memory_layout.specs.Entries.{list_tables, list_places, list_limits}
 use Rattle.memory_layout.specs.Fit.{Fit}
 use Rattle.memory_layout.specs.Laws.{lists_of}
-use Rattle.memory_layout.proofs.Laws.{words-length}
-use Rattle.memory_writes.specs.Put.{over, put_words, put_reals, new_words, counted, unless_refused}
-use Rattle.memory_writes.specs.Over.{length_over}
-use Rattle.memory_writes.specs.Frame.{new-length}
-use Rattle.memory_writes.specs.Change.{SameModel, with_record, with_one_more}
-use Rattle.memory_writes.specs.Kept.{readable_of, model-put, fit-put, model-new, fit-new}
-use Rattle.edit_core.specs.Answers.{insert_number, insert_words, insert_reals, edit_number, edit_words, edit_reals}
-use Rattle.edit_core.specs.Facts.{Fields}
-use Rattle.edit_core.specs.Laws.{insert-open, edit-open}
-use Rattle.edit_effects.specs.Leaves.{Leaves, Inserts, Sets}
+use Rattle.memory_writes.specs.Put.{unless_refused}
+use Rattle.memory_writes.specs.Change.{SameModel}
+use Rattle.memory_writes.specs.Kept.{readable_of}
+use Rattle.edit_core.specs.Answers.{insert_number, edit_number}
+use Rattle.edit_effects.specs.Leaves.{Leaves}
 
-same-to : {a m n : Model} → m ≡ n → SameModel a m → SameModel a n
+pub same-to : {a m n : Model} → m ≡ n → SameModel a m → SameModel a n
 same-to {a} e h = subst (λ (m : Model). SameModel a m) e h
 
 -- a record that is changed by a function is the one that the function makes of it
@@ -41,20 +34,20 @@ edited-by {A} t i a f e = ap (λ (slot : ℕ → A). record { used = t.used; slo
     at false j h = refl
 
 module _ (room w : List ℕ) (x : List Float) where
-  leaves : (number : ℕ) (w' : List ℕ) (x' : List Float) (n : Model) → (number ≡ 0 → Fit room w' x') → (number ≡ 0 → SameModel (decode room w' x') n)
+  pub leaves : (number : ℕ) (w' : List ℕ) (x' : List Float) (n : Model) → (number ≡ 0 → Fit room w' x') → (number ≡ 0 → SameModel (decode room w' x') n)
       → Leaves room w x number (unless_refused number w' w) (unless_refused number x' x) n
   leaves zero w' x' n f m = record { readable = λ e. readable_of room w' x' (f e); model = m; refused = λ e. absurd (e refl) }
   leaves (suc number) w' x' n f m =
       record { readable = λ e. absurd (omega arith); model = λ e. absurd (omega arith); refused = λ _. (refl, refl) }
 
   -- the values of what was not refused are ok
-  insert-ok : (ok : Bool) (k : ℕ) → insert_number room w x ok k ≡ 0 → ok ≡ true
+  pub insert-ok : (ok : Bool) (k : ℕ) → insert_number room w x ok k ≡ 0 → ok ≡ true
   unfolding insert_number
   insert-ok ok k e =
       unless-zero 0 ok (then-zero (1 unless ok) (8 unless ltb (word w k) (word room k))
       (then-zero (9 unless Readable.readable room w x) (1 unless ok then 8 unless ltb (word w k) (word room k)) e).1).0
 
-  edit-ok : (ok : Bool) (k i : ℕ) → edit_number room w x ok k i ≡ 0 → ok ≡ true
+  pub edit-ok : (ok : Bool) (k i : ℕ) → edit_number room w x ok k i ≡ 0 → ok ≡ true
   unfolding edit_number
   edit-ok ok k i e =
       unless-zero 0 ok (then-zero (1 unless ok) (2 unless ltb i (word w k) then 0)
@@ -71,45 +64,3 @@ module _ (room w : List ℕ) (x : List Float) where
   office-within i f h =
       let r : List ℕ = words_of room w 0 i in
       (and_both (leb (word r 0) 4) (leb (word r 1) 1) (and_both (leb (word r 0) 4 && leb (word r 1) 1) (leb (word r 2) 16) (f.rows 0 i (omega arith) h)).0).1
-
-  module _ (ok : Bool) (k : ℕ) (f : List ℕ) (s : List Float) (n : Model) where
-    -- the new record has lists of length 0
-    pub inserts : Fields k 0 f s → (ok ≡ true → Readable.record_ok k (new_words k f) s ≡ true) → with_one_more k (new_words k f) s (decode room w x) ≡ n
-        → Inserts room w x ok k f s n
-    unfolding insert_words insert_reals
-    inserts fields passes same =
-        let whole : length (new_words k f) ≡ word word_strides k = new-length k f (let h = fields.words in omega arith) in
-        leaves (insert_number room w x ok k) (counted k (put_words room k (word w k) (new_words k f) w)) (put_reals room k (word w k) s x) n
-        (λ z. let got = insert-open room w x ok k z in
-        fit-new room w (new_words k f) x s k got.0 fields.table got.1 whole fields.reals (passes (insert-ok ok k z)))
-        (λ z. let got = insert-open room w x ok k z in
-        same-to same (model-new room w (new_words k f) x s k got.0 fields.table got.1 whole fields.reals))
-
-    module _ (i p : ℕ) where
-      -- the record keeps what stands behind its fields
-      pub sets : Fields k p f s
-          → (ok ≡ true → Fit room w x → i < word w k → length (words_of room w k i) ≡ word word_strides k → Readable.record_ok k (over p f (words_of room w k i)) s ≡ true)
-          → (length (words_of room w k i) ≡ word word_strides k → with_record k i (over p f (words_of room w k i)) s (decode room w x) ≡ n)
-          → Sets room w x ok k i p f s n
-      unfolding edit_words edit_reals
-      sets fields passes same =
-          leaves (edit_number room w x ok k i) (put_words room k i (over p f (words_of room w k i)) w) (put_reals room k i s x) n
-          (λ z. let got = edit-open room w x ok k i z in
-          fit-put room w (over p f (words_of room w k i)) x s k i got.0 fields.table (slot z) (whole z) fields.reals got.1
-          (passes (edit-ok ok k i z) got.0 got.1 (long z)))
-          (λ z. let got = edit-open room w x ok k i z in
-          same-to (same (long z))
-          (model-put room w (over p f (words_of room w k i)) x s k i got.0 fields.table (slot z) (whole z) fields.reals got.1))
-        where
-          slot : edit_number room w x ok k i ≡ 0 → i < word room k
-          slot z = let got = edit-open room w x ok k i z in lt_of_lt_of_le got.1 (got.0.sized.counts k fields.table)
-
-          long : edit_number room w x ok k i ≡ 0 → length (words_of room w k i) ≡ word word_strides k
-          long z =
-              words-length room w k i (record { enough = (edit-open room w x ok k i z).0.sized.words; table = fields.table; slot = slot z })
-
-          whole : edit_number room w x ok k i ≡ 0 → length (over p f (words_of room w k i)) ≡ word word_strides k
-          whole z =
-              let e = long z in
-              let h = fields.words in
-              length_over p f (words_of room w k i) (omega arith) ∙ e

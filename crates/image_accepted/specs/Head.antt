@@ -18,7 +18,8 @@ use Rattle.image_format.specs.Bytes.{words, floats, lists, number, words_in, flo
 use Rattle.image_format.specs.Fields.{PRECISION_RECORD, marks, record_image, fields_in}
 use Rattle.image_format.specs.Image.{precision_fields, count_in, model_of}
 use Rattle.image_laws.specs.Numbers.{Bytes, below-drop, number-below, numbers_in}
-use Rattle.image_laws.specs.Starts.{starts, starts-little, starts-floats}
+use Rattle.image_laws.specs.Starts.{starts}
+use Rattle.image_laws.proofs.Starts.{starts-little, starts-floats}
 use Rattle.image_record_test.specs.Parts.{bits_good}
 use Rattle.image_record_test.specs.Kept.{finite-kept}
 use Rattle.image_record_test.specs.Tested.{words-start, starts-record}

@@ -14,7 +14,8 @@ use Rattle.image_format.specs.Fields.{VERSION_RECORD, marks, record_image}
 use Rattle.image_format.specs.Image.{records_image, version_image, image_of, model_of, version_in, records_in, model_in, held, accepted}
 use Rattle.image_laws.specs.Numbers.{Bytes, below-first, below-drop}
 use Rattle.image_laws.specs.Machines.{records-bytes}
-use Rattle.image_laws.specs.Starts.{starts, same-both, starts-little, starts-words, eqb-sym}
+use Rattle.image_laws.specs.Starts.{starts, same-both, eqb-sym}
+use Rattle.image_laws.proofs.Starts.{starts-little, starts-words}
 use Rattle.image_record_test.specs.Tested.{starts-record}
 use Rattle.image_accepted.specs.Ends.{starts-long}
 use Rattle.image_accepted.specs.Whole.{records_accepted, Found, records-found}

@@ -18,7 +18,8 @@ use Rattle.image_reader.specs.Answers.{read_number, read_words, read_reals}
 use Rattle.image_effects.specs.Fits.{machine-sound, calls-double}
 use Rattle.image_effects.specs.Statements.{image-taken, image-read}
 use Rattle.meaning_split_laws.specs.Terms.{itself, split_edges, Restored, euler_number}
-use Rattle.meaning_split_laws.specs.Statements.{stays-well-formed, empty-report-stays, euler-number-stays, gives_back, gives-back-any}
+use Rattle.meaning_split_laws.specs.Statements.{stays-well-formed, empty-report-stays}
+use Rattle.meaning_split_laws.proofs.Statements.{euler-number-stays, gives_back, gives-back-any}
 use Rattle.memory_layout.specs.Limits.{limits}
 use Rattle.split_edge.specs.After.{split_answer}
 use Rattle.split_effect.specs.Statements.{HoldsModel, same-model}
@@ -29,7 +30,9 @@ use Rattle.split_sequences.specs.Tested.{refusal-same}
 use Rattle.split_sequences.specs.Walked.{report-same, walks_same, euler-same}
 use Rattle.split_sequences.specs.Restored.{restored_same}
 use Rattle.split_sequences.specs.Followed.{Followed, number_read, followed}
-use Rattle.split_sequences.specs.Statements.{Sound, calls-model, memory-stays-well-formed}
+use Rattle.split_sequences.specs.Statements.{Sound}
+use Rattle.split_sequences.specs.Statements.{calls-model}
+use Rattle.split_sequences.proofs.Memory.{memory-stays-well-formed}
 
 -- ---- two rows of splits, one behind the other
 

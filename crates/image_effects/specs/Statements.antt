@@ -25,7 +25,7 @@ use Rattle.image_laws.specs.Numbers.{Bytes, Words, Doubles}
 use Rattle.image_laws.specs.Models.{Machine}
 use Rattle.image_laws.specs.Machines.{machine-lent, behind-bytes, table-bytes, records-bytes}
 use Rattle.image_laws.specs.Held.{lent-held}
-use Rattle.image_laws.specs.Statements.{accepted-is-bytes, written-is-read, written-is-accepted}
+use Rattle.image_laws.proofs.Statements.{accepted-is-bytes, written-is-read, written-is-accepted}
 use Rattle.image_reader.specs.Answers.{room_for, version_laid, read_number, read_words, read_reals}
 use Rattle.image_reader.specs.Laws.{loadable, taken}
 use Rattle.image_writer.specs.Answers.{write_number, written_bytes}

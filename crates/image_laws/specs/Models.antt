@@ -9,15 +9,15 @@ use Rattle.geom_lines_planes.specs.declared.tolerance.Version.TheVariants.{First
 use Rattle.meaning.specs.Lists.{all, every}
 use Rattle.meaning.specs.Model.{Model, largest, office-0}
 use Rattle.meaning.specs.Edits.{precision_ok}
-use Rattle.memory_layout.specs.Names.{BODIES, REGIONS, SHELLS, FACES, LOOPS, FINS, EDGES, VERTICES, CURVES, SURFACES, PRECISION}
-use Rattle.memory_layout.specs.Layout.{word, real}
-use Rattle.memory_layout.specs.Laid.{rooms, version_tag}
+use Rattle.memory_layout.specs.Names.{BODIES, REGIONS, SHELLS, FACES, LOOPS, FINS, EDGES, VERTICES, CURVES, SURFACES}
+use Rattle.memory_layout.specs.Layout.{word}
+use Rattle.memory_layout.specs.Laid.{version_tag}
 use Rattle.memory_writes.specs.Change.{SameModel}
 use Rattle.image_format.specs.Bytes.{number}
-use Rattle.image_format.specs.Fields.{PRECISION_RECORD, VERSION_RECORD, marks, record_image, fields_in, behind, body_fields, region_fields, shell_fields, face_fields, loop_fields, fin_fields, edge_fields, vertex_fields, carrier_fields, body_in, region_in, shell_in, face_in, loop_in, fin_in, edge_in, vertex_in, carrier_in}
-use Rattle.image_format.specs.Image.{precision_fields, table_image, records_image, version_image, image_of, count_in, table_bytes, model_of, version_in, records_in, model_in, body_held, region_held, shell_held, face_held, loop_held, edge_held, vertex_held, held}
-use Rattle.image_laws.specs.Records.{first-marked, Fitting, record-mark, fields_read, behind-read, body_back, region-back, shell-back, face-back, loop-back, fin-back, edge-back, vertex-back, carrier-back}
-use Rattle.image_laws.specs.Tables.{Written, behind-table, table-read, table_same, held-table, same-third}
+use Rattle.image_format.specs.Fields.{PRECISION_RECORD, VERSION_RECORD, marks, record_image, body_fields, region_fields, shell_fields, face_fields, loop_fields, fin_fields, edge_fields, vertex_fields, carrier_fields}
+use Rattle.image_format.specs.Image.{precision_fields, table_image, records_image, version_image, image_of, version_in, records_in, body_held, region_held, shell_held, face_held, loop_held, edge_held, vertex_held, held}
+use Rattle.image_laws.specs.Records.{first-marked, Fitting, record-mark}
+use Rattle.image_laws.specs.Tables.{table_same, held-table, same-third}
 
 -- ---- a model of numbers of 32 bits and floats of 64, as all lent memory is
 pub record Machine (m : Model) : Type 0 where
@@ -56,10 +56,10 @@ chained [] c = c
 chained (l ∷ r) c = l ++ chained r c
 
 -- one behind the other, from part n on, and behind them the bytes c
-abbrev from : ℕ → Model → List ℕ → List ℕ
+abbrev pub from : ℕ → Model → List ℕ → List ℕ
 from n m c = chained (drop n (parts m)) c
 
-image-parts : (m : Model) (c : List ℕ) → records_image m ++ c ≡ from 0 m c
+pub image-parts : (m : Model) (c : List ℕ) → records_image m ++ c ≡ from 0 m c
 unfolding records_image
 image-parts m c = simp append_assoc
 
@@ -67,67 +67,6 @@ image-parts m c = simp append_assoc
 module _ (m : Model) (w : Machine m) (c : List ℕ) where
   abbrev image : List ℕ
   image = records_image m ++ c
-
-  first : fields_in PRECISION_RECORD image ≡ precision_fields m
-  first = ap (fields_in PRECISION_RECORD) (image-parts m c) ∙ fields_read PRECISION_RECORD (precision_fields m) (from 1 m c) w.precision
-
-  counts : (k : ℕ) → count_in image k ≡ word (rooms m) k
-  unfolding count_in
-  counts k = ap (λ f. word f.words k) first
-
-  bodies : Written image BODIES body_fields m.bodies (from 2 m c)
-  unfolding table_bytes
-  bodies =
-      record {
-        fit = w.bodies;
-        count = counts BODIES;
-        bytes = ap (behind PRECISION_RECORD) (image-parts m c) ∙ behind-read PRECISION_RECORD (precision_fields m) (from 1 m c) w.precision;
-      }
-
-  regions : Written image REGIONS region_fields m.regions (from 3 m c)
-  regions = record { fit = w.regions; count = counts REGIONS; bytes = behind-table bodies }
-
-  shells : Written image SHELLS shell_fields m.shells (from 4 m c)
-  shells = record { fit = w.shells; count = counts SHELLS; bytes = behind-table regions }
-
-  faces : Written image FACES face_fields m.faces (from 5 m c)
-  faces = record { fit = w.faces; count = counts FACES; bytes = behind-table shells }
-
-  loops : Written image LOOPS loop_fields m.loops (from 6 m c)
-  loops = record { fit = w.loops; count = counts LOOPS; bytes = behind-table faces }
-
-  fins : Written image FINS fin_fields m.fins (from 7 m c)
-  fins = record { fit = w.fins; count = counts FINS; bytes = behind-table loops }
-
-  edges : Written image EDGES edge_fields m.edges (from 8 m c)
-  edges = record { fit = w.edges; count = counts EDGES; bytes = behind-table fins }
-
-  vertices : Written image VERTICES vertex_fields m.vertices (from 9 m c)
-  vertices = record { fit = w.vertices; count = counts VERTICES; bytes = behind-table edges }
-
-  curves : Written image CURVES carrier_fields m.curves (from 10 m c)
-  curves = record { fit = w.curves; count = counts CURVES; bytes = behind-table vertices }
-
-  surfaces : Written image SURFACES carrier_fields m.surfaces (from 11 m c)
-  surfaces = record { fit = w.surfaces; count = counts SURFACES; bytes = behind-table curves }
-
-  records-read : (v : Version) → v ≡ m.version → SameModel (model_of image v) m
-  unfolding model_of
-  records-read v e =
-      record {
-        version = e;
-        precision = ap (λ f. real f.floats PRECISION) first;
-        bodies = table-read bodies body_in body_back;
-        regions = table-read regions region_in region-back;
-        shells = table-read shells shell_in shell-back;
-        faces = table-read faces face_in face-back;
-        loops = table-read loops loop_in loop-back;
-        fins = table-read fins fin_in fin-back;
-        edges = table-read edges edge_in edge-back;
-        vertices = table-read vertices vertex_in vertex-back;
-        curves = table-read curves carrier_in carrier-back;
-        surfaces = table-read surfaces carrier_in carrier-back;
-      }
 
 -- ---- and the version
 
@@ -137,28 +76,22 @@ version-fits =
     record { mark = first-marked VERSION_RECORD (omega arith); words = refl; floats = refl; lists = refl; small = refl; double = tt; short = tt }
 
 -- the precision's record does not begin as the version's
-version-back : (v : Version) (s : List ℕ) → number 2 s ≡ word marks PRECISION_RECORD → version_in (version_image v ++ s) ≡ v
+pub version-back : (v : Version) (s : List ℕ) → number 2 s ≡ word marks PRECISION_RECORD → version_in (version_image v ++ s) ≡ v
 unfolding version_in version_image
 version-back First s first = rw first
 version-back Second s first = rw (record-mark VERSION_RECORD _ s version-fits)
 
-records-back : (v : Version) (s : List ℕ) → number 2 s ≡ word marks PRECISION_RECORD → records_in (version_image v ++ s) ≡ s
+pub records-back : (v : Version) (s : List ℕ) → number 2 s ≡ word marks PRECISION_RECORD → records_in (version_image v ++ s) ≡ s
 unfolding records_in
 records-back v s first = rw (version-back v s first) (drop-append_seam (version_image v) s)
 
 module _ (m : Model) (w : Machine m) (c : List ℕ) where
-  whole_parts : image_of m ++ c ≡ version_image m.version ++ (records_image m ++ c)
+  pub whole_parts : image_of m ++ c ≡ version_image m.version ++ (records_image m ++ c)
   unfolding image_of
   whole_parts = append_assoc (version_image m.version) (records_image m) c
 
-  begins : number 2 (records_image m ++ c) ≡ word marks PRECISION_RECORD
+  pub begins : number 2 (records_image m ++ c) ≡ word marks PRECISION_RECORD
   begins = ap (number 2) (image-parts m c) ∙ record-mark PRECISION_RECORD (precision_fields m) (from 1 m c) w.precision
-
-  pub model-read : SameModel (model_in (image_of m ++ c)) m
-  unfolding model_in
-  model-read =
-      rw (whole_parts, records-back m.version (records_image m ++ c) begins)
-      (records-read m w c (version_in (version_image m.version ++ (records_image m ++ c))) (version-back m.version (records_image m ++ c) begins))
 
 -- ---- models that are the same
 

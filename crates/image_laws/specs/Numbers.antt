@@ -9,8 +9,8 @@ use Rattle.std.specs.Float.Ieee.{to_bits, of_bits, fits}
 use Rattle.std.specs.Float.Ieee.Bits.{of_bits-to_bits, to_bits-lt}
 use Rattle.meaning.specs.Lists.{all, joined}
 use Rattle.meaning_list_laws.specs.Tests.{and_both}
-use Rattle.meaning_list_laws.specs.Lists.{joined-none, joined-cons, joined-append}
-use Rattle.image_format.specs.Bytes.{little, words, floats, lists, number, words_in, floats_in, lists_in, same_bytes}
+use Rattle.meaning_list_laws.specs.Lists.{joined-none, joined-append}
+use Rattle.image_format.specs.Bytes.{little, words, floats, lists, number, words_in, floats_in, same_bytes}
 
 -- ---- what fits
 
@@ -117,9 +117,6 @@ length-words_in n s = ap length (words-in n s) ∙ length-numbers_in 4 n s
 pub length-words : (l : List ℕ) → length (words l) ≡ 4 * length l
 length-words l = length-numbers 4 l
 
-pub words-read : (l s : List ℕ) → Words l → words_in (length l) (words l ++ s) ≡ l
-words-read l s h = words-in (length l) (words l ++ s) ∙ numbers-read 4 l s h
-
 pub drop-words : (l s : List ℕ) → drop (4 * length l) (words l ++ s) ≡ s
 drop-words l s = drop_at (words l) s (4 * length l) (length-words l)
 
@@ -150,16 +147,9 @@ unfolding all
 patterns-below [] d = refl
 patterns-below (v ∷ x) d = rw (lt-ltb (to_bits binary64 v) (256 ^ 8) (to_bits-lt binary64 v d.0)) (patterns-below x d.1)
 
-of-patterns : (x : List Float) → Doubles x → map (of_bits binary64) (patterns x) ≡ x
+pub of-patterns : (x : List Float) → Doubles x → map (of_bits binary64) (patterns x) ≡ x
 of-patterns [] d = refl
 of-patterns (v ∷ x) d = ap₂ {C = List Float} (λ a r. a ∷ r) (of_bits-to_bits binary64 v d.0) (of-patterns x d.1)
-
-pub floats-read : (x : List Float) (s : List ℕ) → Doubles x → floats_in (length x) (floats x ++ s) ≡ x
-floats-read x s d =
-    floats-in (length x) (floats x ++ s)
-    ∙ ap (map (of_bits binary64))
-    (ap₂ (λ n r. numbers_in 8 n (r ++ s)) (sym (length-map x (to_bits binary64))) (floats-are x) ∙ numbers-read 8 (patterns x) s (patterns-below x d))
-    ∙ of-patterns x d
 
 pub drop-floats : (x : List Float) (s : List ℕ) → drop (8 * length x) (floats x ++ s) ≡ s
 drop-floats x s = drop_at (floats x) s (8 * length x) (length-floats x)
@@ -178,18 +168,6 @@ lists-are (l ∷ r) = rw (lists-are r) (sym (joined-append (little 4) (length l 
 
 pub length-lists : (r : List (List ℕ)) → length (lists r) ≡ 4 * length (flat r)
 length-lists r = ap length (lists-are r) ∙ length-words (flat r)
-
-pub lists-read : (r : List (List ℕ)) (s : List ℕ) → Lists r → lists_in (length r) (lists r ++ s) ≡ r
-unfolding lists lists_in
-lists-read [] s h = refl
-lists-read (l ∷ r) s h =
-    let n = length l in
-    let both = below-first 0x1_0000_0000 n l h.0 in
-    let whole : (words (n ∷ l) ++ lists r) ++ s ≡ little 4 n ++ (words l ++ (lists r ++ s)) = simp (joined-cons, append_assoc) in
-    let count : number 4 ((words (n ∷ l) ++ lists r) ++ s) ≡ n = ap (number 4) whole ∙ number-little 4 n (words l ++ (lists r ++ s)) both.0 in
-    let entries : drop 4 ((words (n ∷ l) ++ lists r) ++ s) ≡ words l ++ (lists r ++ s) = ap (drop 4) whole ∙ drop-little 4 n (words l ++ (lists r ++ s)) in
-    let rest : drop (4 * suc n) ((words (n ∷ l) ++ lists r) ++ s) ≡ lists r ++ s = ap (drop (4 * suc n)) (append_assoc (words (n ∷ l)) (lists r) s) ∙ drop-words (n ∷ l) (lists r ++ s) in
-    rw (count, entries, rest) (ap₂ {C = List (List ℕ)} (λ a b. a ∷ b) (words-read l (lists r ++ s) both.1) (lists-read r s h.1))
 
 -- ---- compared
 

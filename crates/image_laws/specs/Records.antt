@@ -3,7 +3,6 @@ use Rattle.std.specs.Prelude.{ℕ, ◌+◌, ◌*◌, ◌<◌, ◌≡◌, refl, B
 use Rattle.std.proofs.Common.{arith, sym, ap, ◌∙◌, length-append, drop-drop, ltb-true}
 use mathlib.Core.List.{List, [], ◌∷◌, ◌++◌, append_assoc}
 use Rattle.std.proofs.Math.Option.{Option, none, some}
-use Rattle.std.proofs.Math.Seq.{drop-append_seam}
 use Rattle.std.proofs.lemmas.Bool.{not-true}
 use Rattle.geom_lines_planes.specs.declared.tolerance.Tolerance.{Tolerance}
 use Rattle.geom_lines_planes.specs.declared.tolerance.Tolerance.TheVariants.{Own, Session}
@@ -16,9 +15,9 @@ use Rattle.memory_layout.specs.Names.{BODIES}
 use Rattle.memory_layout.specs.Layout.{word}
 use Rattle.memory_layout.specs.Decode.{kind_of, sense_of, maybe_at, tolerance_of}
 use Rattle.memory_layout.specs.Laid.{bit, sense, kind, maybe, tag, own}
-use Rattle.image_format.specs.Bytes.{words, floats, lists, number, words_in, floats_in, lists_in}
-use Rattle.image_format.specs.Fields.{Fields, marks, SECOND_BODY_MARK, mark_of, word_counts, float_counts, list_counts, record_image, office_in, fields_in, behind, body_fields, region_fields, shell_fields, face_fields, loop_fields, fin_fields, edge_fields, vertex_fields, carrier_fields, body_in, region_in, shell_in, face_in, loop_in, fin_in, edge_in, vertex_in, carrier_in}
-use Rattle.image_laws.specs.Numbers.{Words, Doubles, Lists, length-little, number-little, drop-little, length-words, words-read, drop-words, length-floats, floats-read, drop-floats, lists-read}
+use Rattle.image_format.specs.Bytes.{words, floats, lists, number}
+use Rattle.image_format.specs.Fields.{Fields, marks, SECOND_BODY_MARK, mark_of, word_counts, float_counts, list_counts, record_image, office_in, body_fields, region_fields, shell_fields, face_fields, loop_fields, fin_fields, edge_fields, vertex_fields, carrier_fields, body_in, region_in, shell_in, face_in, loop_in, fin_in, edge_in, vertex_in, carrier_in}
+use Rattle.image_laws.specs.Numbers.{Words, Doubles, Lists, length-little, number-little, drop-little, length-words, drop-words, length-floats, drop-floats}
 
 -- ---- a mark of two bytes, which tells the office that it is written for
 pub record Marked (k : ℕ) (o : Office) : Type 0 where
@@ -56,41 +55,24 @@ module _ (k : ℕ) (f : Fields) (s : List ℕ) (fit : Fitting k f) where
   whole = record_image k f ++ s
 
   -- the parts, one behind the other
-  from-words : drop 2 whole ≡ words f.words ++ (floats f.floats ++ (lists f.lists ++ s))
+  pub from-words : drop 2 whole ≡ words f.words ++ (floats f.floats ++ (lists f.lists ++ s))
   unfolding record_image
   from-words = simp append_assoc (drop-little 2 (mark_of k f.office) (words f.words ++ (floats f.floats ++ (lists f.lists ++ s))))
 
-  from-floats : drop (2 + 4 * word word_counts k) whole ≡ floats f.floats ++ (lists f.lists ++ s)
+  pub from-floats : drop (2 + 4 * word word_counts k) whole ≡ floats f.floats ++ (lists f.lists ++ s)
   from-floats =
       sym (drop-drop (4 * word word_counts k) 2 whole) ∙ ap (drop (4 * word word_counts k)) from-words
       ∙ rw (← fit.words) (drop-words f.words (floats f.floats ++ (lists f.lists ++ s)))
 
-  from-lists : drop (2 + 4 * word word_counts k + 8 * word float_counts k) whole ≡ lists f.lists ++ s
+  pub from-lists : drop (2 + 4 * word word_counts k + 8 * word float_counts k) whole ≡ lists f.lists ++ s
   from-lists =
       sym (drop-drop (8 * word float_counts k) (2 + 4 * word word_counts k) whole) ∙ ap (drop (8 * word float_counts k)) from-floats
       ∙ rw (← fit.floats) (drop-floats f.floats (lists f.lists ++ s))
-
-  words_back : words_in (word word_counts k) (drop 2 whole) ≡ f.words
-  words_back = rw (from-words, ← fit.words) (words-read f.words _ fit.small)
-
-  floats-back : floats_in (word float_counts k) (drop (2 + 4 * word word_counts k) whole) ≡ f.floats
-  floats-back = rw (from-floats, ← fit.floats) (floats-read f.floats _ fit.double)
-
-  lists_back : lists_in (word list_counts k) (drop (2 + 4 * word word_counts k + 8 * word float_counts k) whole) ≡ f.lists
-  lists_back = rw (from-lists, ← fit.lists) (lists-read f.lists _ fit.short)
 
   -- a record begins with its mark
   pub record-mark : number 2 whole ≡ mark_of k f.office
   unfolding record_image
   record-mark = simp append_assoc (number-little 2 (mark_of k f.office) (words f.words ++ (floats f.floats ++ (lists f.lists ++ s))) fit.mark.narrow)
-
-  pub fields_read : fields_in k (record_image k f ++ s) ≡ f
-  unfolding fields_in
-  fields_read = λ i. record { office = (ap (office_in k) record-mark ∙ fit.mark.told) i; words = words_back i; floats = floats-back i; lists = lists_back i }
-
-  pub behind-read : behind k (record_image k f ++ s) ≡ s
-  unfolding behind
-  behind-read = rw fields_read (drop-append_seam (record_image k f) s)
 
 -- ---- the nine kinds of records
 

@@ -16,7 +16,8 @@ use Rattle.image_format.specs.Bytes.{little, words, floats, lists, number, words
 use Rattle.image_format.specs.Fields.{list_limits_of, Fields, mark_of, word_counts, float_counts, list_counts, record_image, office_in, fields_in}
 use Rattle.image_laws.specs.Numbers.{Bytes, below-drop, patterns, words-in, length-little, length-words, length-words_in, length-floats, length-floats_in, length-lists, flat, same-itself}
 use Rattle.image_laws.specs.Machines.{words-below}
-use Rattle.image_laws.specs.Starts.{exchange, starts, starts-both, starts-little, starts-words, starts-floats}
+use Rattle.image_laws.specs.Starts.{exchange, starts, starts-both}
+use Rattle.image_laws.proofs.Starts.{starts-little, starts-words, starts-floats}
 use Rattle.image_record_test.specs.Good.{spelled, record_good, record_size, record_end}
 use Rattle.image_record_test.specs.Parts.{fixed_size, mark_good, fixed_good, list_end, lists_end}
 use Rattle.image_record_test.specs.Explicit.{numbers_at, numbers-at, fields_here, fields-here}

@@ -13,8 +13,10 @@ use Rattle.meaning.specs.Model.{Model}
 use Rattle.meaning.specs.Inquire.{Side, rim}
 use Rattle.meaning_list_laws.specs.Tests.{and_both}
 use Rattle.meaning_sheets.specs.Sheets.{corner, grid_points, grid_sides, side_points, triangles, whole_polygon, whole_side, whole_sum}
-use Rattle.meaning_sheet_laws.specs.Sizes.{size-neg, triangles-more, grid-more, side-size}
-use Rattle.meaning_sheet_laws.specs.Parts.{part_sum, plus_sum, minus_sum, plus-more, minus-more, plus-size, minus-size}
+use Rattle.meaning_sheet_laws.specs.Sizes.{size-neg, triangles-more, grid-more}
+use Rattle.meaning_sheet_laws.proofs.Sizes.{side-size}
+use Rattle.meaning_sheet_laws.specs.Parts.{part_sum, plus_sum, minus_sum, plus-more, minus-more}
+use Rattle.meaning_sheet_laws.proofs.Parts.{plus-size, minus-size}
 use Rattle.memory_layout.specs.Layout.{words_of}
 use Rattle.memory_layout.specs.Decode.{decode}
 use Rattle.memory_layout.specs.Entries.{list_of}

@@ -1,8 +1,8 @@
 -- Laws of the lists of which courses are made. Assumes nothing.
-use Rattle.std.specs.Prelude.{ℕ, zero, suc, ◌+◌, ◌*◌, ◌^◌, ◌≤◌, ◌≡◌, refl, Bool, true, false, ◌||◌, List, [], ◌∷◌, ◌++◌, ℤ, ◌+ℤ◌, length, replicate}
+use Rattle.std.specs.Prelude.{ℕ, zero, suc, ◌*◌, ◌^◌, ◌≤◌, ◌≡◌, refl, Bool, true, false, ◌||◌, List, [], ◌∷◌, ◌++◌, ℤ, ◌+ℤ◌, length, replicate}
 use Rattle.std.proofs.Common.{mul-suc, suc-mul, pow-suc, mul-le-mul_left, arith, sym, ap, ◌∙◌, append_assoc, length-append}
 use Rattle.std.proofs.Math.IntN.{+ℤ_idl, +ℤ_assoc}
-use Rattle.meaning.specs.Model.{Model, has}
+use Rattle.meaning.specs.Model.{Model}
 use Rattle.meaning.specs.Offices.{body_for}
 use Rattle.meaning_sheets.specs.Sheets.{six_volume}
 use Rattle.meaning_courses.specs.Courses.{Entry, of_body, of_course, Courses, entries_of, bodies_in, stones_of, some_entry, total_of}

@@ -6,16 +6,17 @@ use mathlib.Core.List.{List, [], ◌∷◌, ◌++◌, map}
 use Rattle.std.proofs.Math.IntN.{+ℤ_idr, +ℤ_assoc, +ℤ_comm}
 use Rattle.std.proofs.Math.ListN.{length}
 use Rattle.geom_lines_planes.specs.Refuse.{◌then◌}
-use Rattle.meaning.specs.Model.{Model, has}
+use Rattle.meaning.specs.Model.{Model}
 use Rattle.meaning.specs.Offices.{office_refusal, body_for}
 use Rattle.meaning.specs.Refuse.{◌if◌, first_of}
 use Rattle.meaning_list_laws.specs.Tests.{then-zero}
-use Rattle.meaning_sheets.specs.Sheets.{Stone, Sheet, new_sheet, sheet_readable, stone_refusal, take_refusal, stone_of, sheet_after, Ask, after_takes}
-use Rattle.meaning_sheet_laws.specs.Sizes.{size-sum, stone-taken}
+use Rattle.meaning_sheets.specs.Sheets.{Stone, Sheet, sheet_readable, stone_refusal, take_refusal, stone_of, sheet_after, Ask}
+use Rattle.meaning_sheet_laws.specs.Sizes.{size-sum}
+use Rattle.meaning_sheet_laws.proofs.Sizes.{stone-taken}
 use Rattle.meaning_sheet_laws.specs.Terms.{listed_where_taken, taken_stones, sum_of}
-use Rattle.meaning_sheet_laws.specs.Takes.{own-refusal, stays-readable, one_more}
-use Rattle.meaning_sheet_laws.specs.Statements.{new-readable, counts-from-new, adds-up-from-new}
-use Rattle.meaning_courses.specs.Courses.{Entry, of_course, Courses, entries_of, bodies_in, stones_of, missing, too_deep, LEVELS, stones_refusal, course_refusal, total_of, course_stones, course_total}
+use Rattle.meaning_sheet_laws.specs.Takes.{own-refusal, one_more}
+use Rattle.meaning_sheet_laws.proofs.Takes.{stays-readable}
+use Rattle.meaning_courses.specs.Courses.{Entry, of_course, Courses, entries_of, bodies_in, stones_of, missing, too_deep, LEVELS, stones_refusal, course_refusal, total_of, course_stones}
 use Rattle.meaning_course_laws.specs.Lists.{bodies-append, stones-few, same_entries, total-append}
 
 -- 1. "an empty course has no stones and total 0", at every level
@@ -106,7 +107,7 @@ module _ (m : Model) (o : ℕ) (q : office_refusal o ≡ 0) where
       ap₂ (λ (n k : ℕ). n then k) (own b h r (omega arith))
       (takes-refused l (sheet_after m o b h) (stays-readable m o b h r) (omega (arith, one_more m o b h)))
 
-  all-taken : (l : List ℕ) (h : Sheet) → sheet_readable h ≡ true → h.stones + length l ≤ 65536 → stones_refusal m o l ≡ 0 → taken_stones m (asks o l) h ≡ map (λ b. stone_of m (body_for m o b)) l
+  pub all-taken : (l : List ℕ) (h : Sheet) → sheet_readable h ≡ true → h.stones + length l ≤ 65536 → stones_refusal m o l ≡ 0 → taken_stones m (asks o l) h ≡ map (λ b. stone_of m (body_for m o b)) l
   unfolding asks taken_stones first_of
   all-taken [] h r s z = refl
   all-taken (b ∷ l) h r s z =
@@ -115,33 +116,24 @@ module _ (m : Model) (o : ℕ) (q : office_refusal o ≡ 0) where
       ap (λ n. listed_where_taken n (stone_of m (body_for m o b)) (taken_stones m (asks o l) (sheet_after m o b h))) none
       ∙ ap (λ (k : List Stone). stone_of m (body_for m o b) ∷ k) (all-taken l (sheet_after m o b h) (stays-readable m o b h r) (omega (arith, one_more m o b h)) parts.1)
 
-  sums : (l : List ℕ) → sum_of (map (λ b. stone_of m (body_for m o b)) l) ≡ total_of m o l
+  pub sums : (l : List ℕ) → sum_of (map (λ b. stone_of m (body_for m o b)) l) ≡ total_of m o l
   unfolding sum_of total_of
   sums [] = refl
   sums (b ∷ l) = ap (λ (z : ℤ). (stone_of m (body_for m o b)).number +ℤ z) (sums l)
 
-  counted : (l : List ℕ) → length (map (λ b. stone_of m (body_for m o b)) l) ≡ length l
+  pub counted : (l : List ℕ) → length (map (λ b. stone_of m (body_for m o b)) l) ≡ length l
   counted [] = refl
   counted (b ∷ l) = ap suc (counted l)
 
 -- the new sheet, handed from stone to stone
 module _ (m : Model) (o : ℕ) (t : Courses) (c : ℕ) (h : (d : ℕ) → length (entries_of t d) ≤ 16) (z : course_refusal m o t c ≡ 0) where
-  office-ok : office_refusal o ≡ 0
+  pub office-ok : office_refusal o ≡ 0
   unfolding course_refusal
   office-ok = (then-zero (office_refusal o) _ z).0
 
-  none-refused : stones_refusal m o (stones_of t LEVELS c) ≡ 0
+  pub none-refused : stones_refusal m o (stones_of t LEVELS c) ≡ 0
   unfolding course_refusal
   none-refused = (then-zero (1 if too_deep t LEVELS c) _ (then-zero (2 if missing m o t LEVELS c) _ (then-zero (office_refusal o) _ z).1).1).1
-
-  taken : taken_stones m (asks o (stones_of t LEVELS c)) new_sheet ≡ map (λ b. stone_of m (body_for m o b)) (stones_of t LEVELS c)
-  taken = all-taken m o office-ok (stones_of t LEVELS c) new_sheet new-readable (omega (arith, few-stones t h c)) none-refused
-
-  pub as-on-a-sheet-stones : (after_takes m (asks o (stones_of t LEVELS c)) new_sheet).stones ≡ course_stones t c
-  as-on-a-sheet-stones = counts-from-new m (asks o (stones_of t LEVELS c)) ∙ ap length taken ∙ counted m o office-ok (stones_of t LEVELS c)
-
-  pub as-on-a-sheet-total : (after_takes m (asks o (stones_of t LEVELS c)) new_sheet).total ≡ course_total m o t c
-  as-on-a-sheet-total = adds-up-from-new m (asks o (stones_of t LEVELS c)) ∙ ap sum_of taken ∙ sums m o office-ok (stones_of t LEVELS c)
 
 -- 6. No total outgrows its two words: at most 3·2^60 for each stone, so 3·2^76
 pub total-held : (m : Model) (o : ℕ) (l : List ℕ) → stones_refusal m o l ≡ 0 → nat_abs (total_of m o l) ≤ 3 * 2 ^ 60 * length l
@@ -150,6 +142,3 @@ total-held m o [] z = omega arith
 total-held m o (b ∷ l) z =
     let parts = then-zero (stone_refusal m (body_for m o b)) (stones_refusal m o l) z in
     omega (arith, total-held m o l parts.1, size-sum (stone_of m (body_for m o b)).number (total_of m o l), stone-taken m (body_for m o b) parts.0)
-
-pub total_size : (m : Model) (o : ℕ) (t : Courses) (c : ℕ) → ((d : ℕ) → length (entries_of t d) ≤ 16) → course_refusal m o t c ≡ 0 → nat_abs (course_total m o t c) ≤ 3 * 2 ^ 76
-total_size m o t c h z = omega (arith, total-held m o (stones_of t LEVELS c) (none-refused m o t c h z), few-stones t h c)

@@ -1,5 +1,4 @@
 pub mod Doubts
 pub mod Opened
 pub mod Laws
-pub mod Statements
 pub mod Telling

@@ -1,5 +1,5 @@
 -- That what is asked of two models can be met where both offices have bodies: two blades, one of each office, and the same with the other's records changed. Assumes nothing.
-use Rattle.std.specs.Prelude.{ℕ, ◌≡◌, refl, Bool, true, false, cond, not, ◌&&◌, List, [], ◌∷◌, map, eqb}
+use Rattle.std.specs.Prelude.{[], ℕ, ◌≡◌, refl, Bool, true, false, cond, not, ◌&&◌, List, ◌∷◌, map, eqb}
 use Rattle.std.proofs.Common.{sym, ap, ◌∙◌, eqb-true, ltb-true}
 use Rattle.std.proofs.lemmas.Bool.{false≢true}
 use Rattle.std.proofs.Math.Option.{none, some}
@@ -15,9 +15,7 @@ use Rattle.meaning.specs.Blade.{with_body, with_region, with_vertex}
 use Rattle.meaning.specs.Computing.{computing}
 use Rattle.meaning_list_laws.specs.Tests.{all_below-at}
 use Rattle.meaning_isolation.specs.Reached.{named, regions_met, shells_met, faces_met, loops_met, fins_met, fins_seen, edges_met, vertices_met, curves_met, surfaces_met}
-use Rattle.meaning_isolation.specs.Told.{SameAnswers}
 use Rattle.meaning_isolation.specs.Offices.{own, ours, theirs, OnlyTheirs, OthersDiffer}
-use Rattle.meaning_isolation.specs.Statements.{others-make-no-difference}
 
 -- ---- the two models
 
@@ -132,7 +130,3 @@ blades-differ =
       curves = unchanged (λ w. w.curves) curves_met refl refl refl;
       surfaces = unchanged (λ w. w.surfaces) surfaces_met refl refl refl;
     }
-
--- so office 0 is told the same of them
-pub blades-told-same : (b : ℕ) → SameAnswers blades other_blades (body_for blades 0 b) (body_for other_blades 0 b)
-blades-told-same = others-make-no-difference blades other_blades 0 blades-differ

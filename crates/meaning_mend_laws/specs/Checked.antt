@@ -1,6 +1,6 @@
 -- The report of a mended body: that of before without the reasons of its pointers. Assumes nothing.
 use Prim.Native.Nat.{ℕ, zero, suc}
-use Rattle.std.specs.Prelude.{◌≡◌, ◌&&◌, ◌||◌, length, Float}
+use Rattle.std.specs.Prelude.{◌≡◌, ◌&&◌, ◌||◌, Float}
 use Rattle.std.proofs.Math.Path.{refl, sym, ap, ap₂, subst, fun_ext}
 use Rattle.std.proofs.Common.{◌∙◌, eqb-true, eq-eqb}
 use Rattle.std.proofs.Math.Bool.{Bool, true, false, not, cond}
@@ -16,21 +16,21 @@ use Rattle.geom_lines_planes.specs.Geometry.{line_point, nearest, plane_distance
 use Rattle.geom_carriers.specs.Queries.{the_line, the_plane}
 use Rattle.geom_signs.specs.Signs.{off_curve_s}
 use Rattle.geom_lines_planes.specs.declared.tolerance.Tolerance.{Tolerance}
-use Rattle.meaning.specs.Lists.{run, member, joined, rotated, is, is_some, the, same}
+use Rattle.meaning.specs.Lists.{run, member, joined, is, the, same}
 use Rattle.meaning.specs.Model.{Model, Sense, positive, negative, changed, has, body, region, shell, face, loop, fin, edge, vertex, point_of, curve, surface}
 use Rattle.meaning.specs.Walks.{readable_fin, edge_vertices, Ends, directed, ends_of, face_walk, faces_refusal, edge_walk, edges_refusal}
 use Rattle.meaning.specs.Inquire.{is_solid}
-use Rattle.meaning.specs.Faults.{Finding, found, skipped, Asked, about, of_edge, of_vertex, fault_on, fault, only_if, geometry_error, off_curve, curve_test, point_on_surface, end_tests, sample_at, sample_test, sample_tests, projected, other_ring, carried, fin_geometry, CheckOptions, fin_findings, meets_next, open_at, opens, open_findings, loop_findings, checked_from, face_findings, shell_findings, region_findings, layout, same_sense, manifold, manifold_edge, manifold_edges, findings, faults_of}
+use Rattle.meaning.specs.Faults.{Finding, found, skipped, Asked, about, of_edge, of_vertex, fault_on, fault, only_if, geometry_error, off_curve, curve_test, point_on_surface, end_tests, sample_at, sample_test, sample_tests, projected, other_ring, carried, fin_geometry, CheckOptions, fin_findings, meets_next, open_at, opens, open_findings, layout, same_sense, manifold, manifold_edge, manifold_edges, findings, faults_of}
 use Rattle.meaning_list_laws.specs.Lists.{fold-in, joined-none, joined-cons}
 use Rattle.meaning_list_laws.specs.Tests.{and-false}
 use Rattle.meaning_list_laws.specs.Findings.{NoFault, no-fault-joined}
-use Rattle.meaning_mends.specs.Mends.{Child, a_region, a_shell, a_loop, a_fin, Meeting, met, loop_meetings, face_meetings, shell_meetings, region_meetings, meetings}
+use Rattle.meaning_mends.specs.Mends.{Child, a_region, a_shell, a_loop, a_fin, Meeting, met, meetings}
 use Rattle.meaning_mends.specs.Laws.{parent, list_wants, wants_all, Has, Each, Met}
 use Rattle.meaning_mend_laws.specs.Terms.{linked, of_pointers, without, list_findings, manifold_by, listing, new_listing, TwoFins}
 
 -- ---- findings without those reasons
 
-without-append : (k l : List Finding) → without (k ++ l) ≡ without k ++ without l
+pub without-append : (k l : List Finding) → without (k ++ l) ≡ without k ++ without l
 unfolding without
 without-append [] l = refl
 without-append (found f ∷ k) l = rw (without-append k l) (by (of_pointers f.reason))
@@ -45,31 +45,31 @@ unfolding joined
 without-joined f [] = unfold without in refl
 without-joined f (y ∷ l) = without-append (f y) (joined f l) ∙ ap (λ r. without (f y) ++ r) (without-joined f l)
 
-without-cond : (b : Bool) (k l : List Finding) → without (cond b k l) ≡ cond b (without k) (without l)
+pub without-cond : (b : Bool) (k l : List Finding) → without (cond b k l) ≡ cond b (without k) (without l)
 without-cond true k l = refl
 without-cond false k l = refl
 
 -- a fault of those reasons goes, one of another stays
-gone : (n i : ℕ) (b : Bool) (l : List Finding) → of_pointers n ≡ true → without (only_if b (fault n i) ++ l) ≡ without l
+pub gone : (n i : ℕ) (b : Bool) (l : List Finding) → of_pointers n ≡ true → without (only_if b (fault n i) ++ l) ≡ without l
 unfolding without fault_on
 gone n i true l h = rw h
 gone n i false l h = refl
 
-stays : (n : ℕ) (a : Asked) → of_pointers n ≡ false → without (fault_on n a ∷ []) ≡ fault_on n a ∷ []
+pub stays : (n : ℕ) (a : Asked) → of_pointers n ≡ false → without (fault_on n a ∷ []) ≡ fault_on n a ∷ []
 unfolding without fault_on
 stays n a h = rw h
 
-stays-if : (n i : ℕ) (b : Bool) (l : List Finding) → of_pointers n ≡ false → without (only_if b (fault n i) ++ l) ≡ only_if b (fault n i) ++ without l
+pub stays-if : (n i : ℕ) (b : Bool) (l : List Finding) → of_pointers n ≡ false → without (only_if b (fault n i) ++ l) ≡ only_if b (fault n i) ++ without l
 unfolding without fault_on
 stays-if n i true l h = rw h
 stays-if n i false l h = refl
 
 -- ---- those that have none of them
 
-abbrev Other : List Finding → Type 0
+abbrev pub Other : List Finding → Type 0
 Other l = without l ≡ l
 
-other_none : Other []
+pub other_none : Other []
 unfolding without
 other_none = refl
 
@@ -80,12 +80,12 @@ other-skipped = refl
 other-append : (k l : List Finding) → Other k → Other l → Other (k ++ l)
 other-append k l p q = without-append k l ∙ ap₂ ◌++◌ p q
 
-other-joined : (f : ℕ → List Finding) (l : List ℕ) → ((y : ℕ) → Other (f y)) → Other (joined f l)
+pub other-joined : (f : ℕ → List Finding) (l : List ℕ) → ((y : ℕ) → Other (f y)) → Other (joined f l)
 unfolding joined
 other-joined f [] h = other_none
 other-joined f (y ∷ l) h = other-append (f y) (joined f l) (h y) (other-joined f l h)
 
-other-cond : (b : Bool) (k l : List Finding) → Other k → Other l → Other (cond b k l)
+pub other-cond : (b : Bool) (k l : List Finding) → Other k → Other l → Other (cond b k l)
 other-cond true k l p q = p
 other-cond false k l p q = q
 
@@ -144,11 +144,11 @@ module _ (m : Model) where
   other-carried k e (some c) (some s) =
       other-append _ _ (other-append _ _ (other-joined (end_tests m e c s) (edge_vertices (edge m e)) (other-ends e c s)) (other-samples k e c s)) (other-if (other_ring m e c s) skipped other-skipped)
 
-  other-geometry : (k f i : ℕ) → Other (fin_geometry m k f i)
+  pub other-geometry : (k f i : ℕ) → Other (fin_geometry m k f i)
   unfolding fin_geometry
   other-geometry k f i = other-cond (readable_fin m i) _ [] (other-carried k _ _ _) other_none
 
-  other-opens : (k l : List ℕ) → Other (opens m k l)
+  pub other-opens : (k l : List ℕ) → Other (opens m k l)
   unfolding opens member
   other-opens [] l = other_none
   other-opens (i ∷ k) [] = other_none
@@ -161,7 +161,7 @@ module _ (P : Meeting → Type 0) where
   met-parts [] l h = (tt, h)
   met-parts (t ∷ k) l h = let rest = met-parts k l h.1 in ((h.0, rest.0), rest.1)
 
-  met_at : (f : ℕ → List Meeting) (l : List ℕ) → Met P (joined f l) → (y : ℕ) → member y l ≡ true → Met P (f y)
+  pub met_at : (f : ℕ → List Meeting) (l : List ℕ) → Met P (joined f l) → (y : ℕ) → member y l ≡ true → Met P (f y)
   unfolding joined member
   met_at f [] h y q = absurd (false≢true q)
   met_at f (x ∷ l) h y q = let parts = met-parts (f x) (joined f l) h in by (eqb y x) refl q parts.0 (met_at f l parts.1 y)
@@ -170,7 +170,7 @@ module _ (P : Meeting → Type 0) where
       by true e r here rest = subst (λ z. Met P (f z)) (sym (eqb-true y x e)) here
       by false e r here rest = rest r
 
-  met-one : (f : ℕ → Meeting) (l : List ℕ) → Met P (map f l) → (y : ℕ) → member y l ≡ true → P (f y)
+  pub met-one : (f : ℕ → Meeting) (l : List ℕ) → Met P (map f l) → (y : ℕ) → member y l ≡ true → P (f y)
   unfolding member
   met-one f [] h y q = absurd (false≢true q)
   met-one f (x ∷ l) h y q = by (eqb y x) refl q (λ r. met-one f l h.1 y r)
@@ -179,13 +179,13 @@ module _ (P : Meeting → Type 0) where
       by true e r rest = subst (λ z. P (f z)) (sym (eqb-true y x e)) h.0
       by false e r rest = rest r
 
-alike : (f g : ℕ → List Finding) (l : List ℕ) → ((y : ℕ) → member y l ≡ true → f y ≡ without (g y)) → joined f l ≡ without (joined g l)
+pub alike : (f g : ℕ → List Finding) (l : List ℕ) → ((y : ℕ) → member y l ≡ true → f y ≡ without (g y)) → joined f l ≡ without (joined g l)
 alike f g l h = fold-in joined ◌++◌ [] joined-none joined-cons f (λ y. without (g y)) l h ∙ sym (without-joined g l)
 
 -- ---- the model with other pointers: all that is found of edges' ends, curves and surfaces is the same
 
 module _ (m : Model) (u : Child → ℕ → ℕ) (a : ℕ → List ℕ) where
-  abbrev n : Model
+  abbrev pub n : Model
   n = linked m u a
 
   same_test : (e c s v : ℕ) → end_tests n e c s v ≡ end_tests m e c s v
@@ -213,7 +213,7 @@ module _ (m : Model) (u : Child → ℕ → ℕ) (a : ℕ → List ℕ) where
       (ap (λ (f : ℕ → List Finding). joined f (edge_vertices (edge m e))) (fun_ext (same_test e c s)))
       (same-samples k e c s)
 
-  same-geometry : (k f i : ℕ) → fin_geometry n k f i ≡ fin_geometry m k f i
+  pub same-geometry : (k f i : ℕ) → fin_geometry n k f i ≡ fin_geometry m k f i
   unfolding linked changed fin_geometry
   same-geometry k f i = ap (λ r. cond (readable_fin m i) r []) (same-carried k (fin m i).edge (edge m (fin m i).edge).curve (face m f).surface)
 
@@ -226,7 +226,7 @@ module _ (m : Model) (u : Child → ℕ → ℕ) (a : ℕ → List ℕ) where
       by positive = refl
       by negative = refl
 
-  same-opens : (k l : List ℕ) → opens n k l ≡ opens m k l
+  pub same-opens : (k l : List ℕ) → opens n k l ≡ opens m k l
   unfolding linked changed opens
   same-opens [] l = refl
   same-opens (i ∷ k) [] = refl
@@ -248,7 +248,7 @@ module _ (m : Model) (u : Child → ℕ → ℕ) (a : ℕ → List ℕ) where
       by a_loop g = (tt, g)
       by a_fin g = ((g.0, tt), g.1)
 
-  fin-right : (l i : ℕ) → Right (met a_fin l i) → fin_findings n l i ≡ without (fin_findings m l i)
+  pub fin-right : (l i : ℕ) → Right (met a_fin l i) → fin_findings n l i ≡ without (fin_findings m l i)
   unfolding fin_findings linked changed member
   fin-right l i h =
       ap₂ (λ x y. cond (has m.fins i) (only_if (not x) (fault 14 i) ++ cond (has m.edges e) (only_if (not y) (fault 16 e) ++ ends) (fault 15 i ∷ [])) (fault 13 l ∷ [])) (eq-eqb (u a_fin i) l h.0) h.1.0
@@ -268,80 +268,13 @@ module _ (m : Model) (u : Child → ℕ → ℕ) (a : ℕ → List ℕ) where
 
   module _ (o : CheckOptions) where
     -- of a loop's fins, then of where they meet, then of their geometry
-    abbrev within : Model → ℕ → ℕ → List ℕ → List Finding
+    abbrev pub within : Model → ℕ → ℕ → List ℕ → List Finding
     within w f l fins = joined (fin_findings w l) fins ++ open_findings w fins ++ cond o.geometry (joined (fin_geometry w o.edge_samples f) fins) []
 
-    fins-right : (f l : ℕ) (fins : List ℕ) → Met Right (map (met a_fin l) fins) → within n f l fins ≡ without (within m f l fins)
-    fins-right f l fins h =
-        ap₂ (λ (x y : List Finding). x ++ open_findings n fins ++ y) (alike (fin_findings n l) (fin_findings m l) fins (λ i q. fin-right l i (met-one Right (met a_fin l) fins h i q)))
-        (ap (λ (g : ℕ → List Finding). cond o.geometry (joined g fins) []) (fun_ext (λ i. same-geometry o.edge_samples f i)))
-        ∙ ap (λ (y : List Finding). without each ++ y ++ shapes) (same-opens fins (rotated fins))
-        ∙ sym (without-append (each ++ open_findings m fins) shapes ∙ ap₂ ◌++◌ (without-append each (open_findings m fins) ∙ ap (λ (y : List Finding). without each ++ y) (other-opens m fins (rotated fins))) shaped)
-      where
-        each : List Finding
-        each = joined (fin_findings m l) fins
-
-        shapes : List Finding
-        shapes = cond o.geometry (joined (fin_geometry m o.edge_samples f) fins) []
-
-        shaped : Other shapes
-        shaped = other-cond o.geometry (joined (fin_geometry m o.edge_samples f) fins) [] (other-joined (fin_geometry m o.edge_samples f) fins (λ i. other-geometry m o.edge_samples f i)) other_none
-
-    loop-right : (f l : ℕ) → Met Right (loop_meetings m f l) → loop_findings n o f l ≡ without (loop_findings m o f l)
-    unfolding loop_findings loop_meetings linked changed member
-    loop-right f l h =
-        ap₂ (λ (x : Bool) (y : List Finding). cond (has m.loops l) (only_if (not x) (fault 11 l) ++ cond none-there (fault 12 l ∷ []) y) (fault 10 f ∷ [])) (eq-eqb (u a_loop l) f h.0.0) (fins-right f l fins h.1)
-        ∙ sym (without-cond (has m.loops l) _ (fault 10 f ∷ [])
-        ∙ ap₂ (cond (has m.loops l))
-        (gone 11 l (not (eqb (loop m l).face f)) _ refl ∙ without-cond none-there (fault 12 l ∷ []) (within m f l fins) ∙ ap (λ (y : List Finding). cond none-there y (without (within m f l fins))) (stays 12 _ refl))
-        (stays 10 _ refl))
-      where
-        fins : List ℕ
-        fins = (loop m l).fins
-
-        none-there : Bool
-        none-there = eqb (length fins) 0
-
-    face-right : (s f : ℕ) → Met Right (face_meetings m f) → face_findings n o s f ≡ without (face_findings m o s f)
-    unfolding face_findings face_meetings linked changed member
-    face-right s f h =
-        ap (λ (y : List Finding). cond (has m.faces f) (only_if (not sided) (fault 8 f) ++ cond from (only_if (not (is_some (face m f).surface)) (fault 9 f) ++ y) []) (fault 7 s ∷ []))
-        (alike (loop_findings n o f) (loop_findings m o f) (face m f).loops (λ l q. loop-right f l (met_at Right (loop_meetings m f) (face m f).loops h l q)))
-        ∙ sym (without-cond (has m.faces f) _ (fault 7 s ∷ [])
-        ∙ ap₂ (cond (has m.faces f))
-        (stays-if 8 f (not sided) _ refl ∙ ap (λ (y : List Finding). only_if (not sided) (fault 8 f) ++ y) (without-cond from _ [] ∙ ap₂ (cond from) (stays-if 9 f (not (is_some (face m f).surface)) _ refl) other_none))
-        (stays 7 _ refl))
-      where
-        sided : Bool
-        sided = is (face m f).front s || is (face m f).back s
-
-        from : Bool
-        from = checked_from (face m f).front s
-
-    shell-right : (r s : ℕ) → Met Right (shell_meetings m r s) → shell_findings n o r s ≡ without (shell_findings m o r s)
-    unfolding shell_findings shell_meetings linked changed member
-    shell-right r s h =
-        ap₂ (λ (x : Bool) (y : List Finding). cond (has m.shells s) (only_if (not x) (fault 6 s) ++ y) (fault 5 r ∷ [])) (eq-eqb (u a_shell s) r h.0.0)
-        (alike (face_findings n o s) (face_findings m o s) (shell m s).faces (λ f q. face-right s f (met_at Right (face_meetings m) (shell m s).faces h.1 f q)))
-        ∙ sym (without-cond (has m.shells s) _ (fault 5 r ∷ []) ∙ ap₂ (cond (has m.shells s)) (gone 6 s (not (eqb (shell m s).region r)) _ refl) (stays 5 _ refl))
-
-    region-right : (b r : ℕ) → Met Right (region_meetings m b r) → region_findings n o b r ≡ without (region_findings m o b r)
-    unfolding region_findings region_meetings linked changed member
-    region-right b r h =
-        ap₂ (λ (x : Bool) (y : List Finding). cond (has m.regions r) (only_if (not x) (fault 4 r) ++ y) (fault 3 b ∷ [])) (eq-eqb (u a_region r) b h.0.0)
-        (alike (shell_findings n o r) (shell_findings m o r) (region m r).shells (λ s q. shell-right r s (met_at Right (shell_meetings m r) (region m r).shells h.1 s q)))
-        ∙ sym (without-cond (has m.regions r) _ (fault 3 b ∷ []) ∙ ap₂ (cond (has m.regions r)) (gone 4 r (not (eqb (region m r).body b)) _ refl) (stays 3 _ refl))
-
-    layout-right : (b : ℕ) (l : List ℕ) → layout n b l ≡ without (layout m b l)
+    pub layout-right : (b : ℕ) (l : List ℕ) → layout n b l ≡ without (layout m b l)
     unfolding linked changed member
     layout-right b [] = sym (stays 1 _ refl)
     layout-right b (r ∷ l) = sym (other-if (has m.regions r && (region m r).solid) (fault 2 b) (stays 2 _ refl))
-
-    pub lists-right : (b : ℕ) → Met Right (meetings m b) → list_findings n o b ≡ without (list_findings m o b)
-    unfolding meetings linked
-    lists-right b h =
-        ap₂ ◌++◌ (layout-right b (body m b).regions) (alike (region_findings n o b) (region_findings m o b) (body m b).regions (λ r q. region-right b r (met_at Right (region_meetings m b) (body m b).regions h r q)))
-        ∙ sym (without-append (layout m b (body m b).regions) (joined (region_findings m o b) (body m b).regions))
 
   -- ---- the manifold edges: they go by the lists
 

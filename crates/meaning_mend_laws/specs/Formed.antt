@@ -12,7 +12,7 @@ use Rattle.meaning.specs.Model.{Model, Limits, changed, has, loop, fin, edge, la
 use Rattle.meaning.specs.Walks.{Ends}
 use Rattle.meaning.specs.Formed.{Readable, StoredIds, has_all, bit, Listed, closed, loop_closes, WellFormed}
 use Rattle.meaning_list_laws.specs.Tests.{and_both, both_ways, bit-true}
-use Rattle.meaning_list_laws.specs.Lists.{member-meets, count-append, count-above, count-present, count-absent, count-once, count_meets, member-counted, all-counted, all_both, all-member, joined_snoc}
+use Rattle.meaning_list_laws.specs.Lists.{member-meets, count-append, count-above, count-present, count-absent, count-once, count_meets, member-counted, all-counted, all-member, joined_snoc}
 use Rattle.meaning_mends.specs.Mends.{Child, a_region, a_shell, a_loop, a_fin, named, children, parents, met, meetings, listings, once, mend_refusal}
 use Rattle.meaning_mends.specs.Laws.{met-tested, all_listed, one-lister}
 use Rattle.meaning_mends.specs.Laws as laws
@@ -30,7 +30,7 @@ same-closed m u a (i ∷ k) [] = refl
 same-closed m u a (i ∷ k) (j ∷ l) =
     ap₂ ◌&&◌ (ap₂ (λ (d g : Ends). same d.end g.start) (same_ends m u a i) (same_ends m u a j)) (same-closed m u a k l)
 
-same-closes : (m : Model) (u : Child → ℕ → ℕ) (a : ℕ → List ℕ) (l : List ℕ) → loop_closes (linked m u a) l ≡ loop_closes m l
+pub same-closes : (m : Model) (u : Child → ℕ → ℕ) (a : ℕ → List ℕ) (l : List ℕ) → loop_closes (linked m u a) l ≡ loop_closes m l
 unfolding loop_closes
 same-closes m u a l = ap (λ t. not (eqb (length l) 0) && t) (same-closed m u a l (rotated l))
 
@@ -73,7 +73,7 @@ module _ (x : Limits) (m : Model) (b n : ℕ) (z : mend_refusal m b n ≡ 0) (s 
       by true e = (found k i e).0
       by false e = rw (unmet (meetings m b) k i (named m k i) e) (s.parents-there k i h e)
 
-  up-once : (k : Child) (p i : ℕ) → p < parents m k → i < many m k → count i (children m k p) ≡ bit (eqb (new_parent m b k i) p)
+  pub up-once : (k : Child) (p i : ℕ) → p < parents m k → i < many m k → count i (children m k p) ≡ bit (eqb (new_parent m b k i) p)
   up-once k p i hp hi = by (member i (reached m b k)) refl
     where
       by : (t : Bool) → member i (reached m b k) ≡ t → count i (children m k p) ≡ bit (eqb (new_parent m b k i) p)
@@ -111,7 +111,7 @@ module _ (x : Limits) (m : Model) (b n : ℕ) (z : mend_refusal m b n ≡ 0) (s 
     listed_by : (i : ℕ) → member i (new_listing m b e) ≡ (member i (listing m e) || (met-it i && eqb e (fin m i).edge))
     listed_by i = member-meets i (listing m e) (naming m e (reached m b a_fin)) ∙ ap (λ t. member i (listing m e) || t) (member-naming m e i (reached m b a_fin))
 
-    fin-once : (i : ℕ) → i < m.fins.used → count i (new_listing m b e) ≡ bit (eqb (fin m i).edge e)
+    pub fin-once : (i : ℕ) → i < m.fins.used → count i (new_listing m b e) ≡ bit (eqb (fin m i).edge e)
     fin-once i h = count-once i (new_listing m b e) (count_meets (listing m e) (naming m e (reached m b a_fin)) listing-most i) ∙ ap bit (both_ways (member i (new_listing m b e)) (eqb (fin m i).edge e) names back)
       where
         names : member i (new_listing m b e) ≡ true → eqb (fin m i).edge e ≡ true
@@ -138,7 +138,7 @@ module _ (x : Limits) (m : Model) (b n : ℕ) (z : mend_refusal m b n ≡ 0) (s 
         by i false r q = lt-ltb i m.fins.used (found-there a_fin i (and_both (met-it i) (eqb e (fin m i).edge) q).0)
 
   module _ (room : largest.edge_fins ≤ x.edge_fins) where
-    new-tables : Readable x (linked m (new_parent m b) (new_listing m b))
+    pub new-tables : Readable x (linked m (new_parent m b) (new_listing m b))
     unfolding linked changed
     new-tables =
         record {
@@ -165,7 +165,7 @@ module _ (x : Limits) (m : Model) (b n : ℕ) (z : mend_refusal m b n ≡ 0) (s 
           vertex-tolerance = s.tables.vertex-tolerance;
         }
 
-    new-ids : StoredIds (linked m (new_parent m b) (new_listing m b))
+    pub new-ids : StoredIds (linked m (new_parent m b) (new_listing m b))
     unfolding linked changed
     new-ids =
         record {
@@ -190,26 +190,10 @@ module _ (x : Limits) (m : Model) (b n : ℕ) (z : mend_refusal m b n ≡ 0) (s 
           edge-curve = s.edge-curve;
         }
 
-    pub formed-by-sentences : WellFormed x (linked m (new_parent m b) (new_listing m b))
-    unfolding linked changed
-    formed-by-sentences =
-        record {
-          tables = new-tables;
-          ids = new-ids;
-          regions = record { once = up-once a_region };
-          shells = record { once = up-once a_shell };
-          loops = record { once = up-once a_loop };
-          fins = record { once = up-once a_fin };
-          faces = s.faces;
-          edges = record { once = λ e i h g. fin-once e h i g };
-          closes = λ l h. same-closes m (new_parent m b) (new_listing m b) (loop m l).fins ∙ s.closes l h;
-          wires = s.wires;
-        }
-
 -- ---- and they are needed: of a model that other pointers for the body's records make well formed
 
 module _ (x : Limits) (m : Model) (b : ℕ) (u : Child → ℕ → ℕ) (a : ℕ → List ℕ) (only : OnlyOf m b u a) (w : WellFormed x (linked m u a)) where
-  tables-but : Readable x m
+  pub tables-but : Readable x m
   unfolding linked changed
   tables-but =
       record {
@@ -236,21 +220,21 @@ module _ (x : Limits) (m : Model) (b : ℕ) (u : Child → ℕ → ℕ) (a : ℕ
         vertex-tolerance = w.tables.vertex-tolerance;
       }
 
-  children-but : (k : Child) (p : ℕ) → p < parents m k → all (λ i. ltb i (many m k)) (children m k p) ≡ true
+  pub children-but : (k : Child) (p : ℕ) → p < parents m k → all (λ i. ltb i (many m k)) (children m k p) ≡ true
   unfolding linked changed
   children-but a_region = w.ids.body-regions
   children-but a_shell = w.ids.region-shells
   children-but a_loop = w.ids.face-loops
   children-but a_fin = w.ids.loop-fins
 
-  parents-of : (k : Child) (i : ℕ) → i < many m k → u k i < parents m k
+  pub parents-of : (k : Child) (i : ℕ) → i < many m k → u k i < parents m k
   unfolding linked changed
   parents-of a_region = w.ids.region-body
   parents-of a_shell = w.ids.shell-region
   parents-of a_loop = w.ids.loop-face
   parents-of a_fin = w.ids.fin-owner
 
-  listed_of : (k : Child) (p i : ℕ) → p < parents m k → i < many m k → count i (children m k p) ≡ bit (eqb (u k i) p)
+  pub listed_of : (k : Child) (p i : ℕ) → p < parents m k → i < many m k → count i (children m k p) ≡ bit (eqb (u k i) p)
   unfolding linked changed
   listed_of a_region = w.regions.once
   listed_of a_shell = w.shells.once
@@ -259,38 +243,12 @@ module _ (x : Limits) (m : Model) (b : ℕ) (u : Child → ℕ → ℕ) (a : ℕ
 
   -- the fins that an edge lists, and those added
   module _ (e i : ℕ) where
-    counted : count i (a e) ≡ count i (listing m e) + count i (only.lists e).new
+    pub counted : count i (a e) ≡ count i (listing m e) + count i (only.lists e).new
     counted = ap (count i) (only.lists e).behind ∙ count-append i (listing m e) (only.lists e).new
 
-    none-added : member i (reached m b a_fin) ≡ false → count i (only.lists e).new ≡ 0
+    pub none-added : member i (reached m b a_fin) ≡ false → count i (only.lists e).new ≡ 0
     none-added h = by (member i (only.lists e).new) refl
       where
         by : (t : Bool) → member i (only.lists e).new ≡ t → count i (only.lists e).new ≡ 0
         by true q = absurd (false≢true (sym h ∙ ((only.lists e).fins i q).0))
         by false q = count-absent i (only.lists e).new q
-
-  pub sentences : ButForPointers x m b
-  unfolding linked changed
-  sentences =
-      record {
-        tables = tables-but;
-        children-there = children-but;
-        parents-there = λ k i h g. subst (λ p. p < parents m k) (only.parents k i g) (parents-of k i h);
-        shell-faces = w.ids.shell-faces;
-        shell-wire-edges = w.ids.shell-wire-edges;
-        shell-acorn-vertices = w.ids.shell-acorn-vertices;
-        face-front = w.ids.face-front;
-        face-back = w.ids.face-back;
-        face-surface = w.ids.face-surface;
-        fin-edge = w.ids.fin-edge;
-        edge-fins = λ e h. (and_both (all (has m.fins) (listing m e)) (all (has m.fins) (only.lists e).new) (sym (all_both (has m.fins) (listing m e) (only.lists e).new) ∙ sym (ap (all (has m.fins)) (only.lists e).behind) ∙ w.ids.edge-fins e h)).0;
-        edge-start = w.ids.edge-start;
-        edge-end = w.ids.edge-end;
-        edge-curve = w.ids.edge-curve;
-        listed = λ k p i hp hi g. listed_of k p i hp hi ∙ ap (λ q. bit (eqb q p)) (only.parents k i g);
-        faces = w.faces;
-        fins = λ e i he hi g. omega (arith, counted e i, none-added e i g, w.edges.once e i he hi);
-        own-fins = λ e i he hi. omega (arith, counted e i, w.edges.once e i he hi);
-        closes = λ l h. sym (same-closes m u a (loop m l).fins) ∙ w.closes l h;
-        wires = w.wires;
-      }

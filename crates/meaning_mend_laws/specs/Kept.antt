@@ -10,7 +10,7 @@ use Rattle.meaning_list_laws.specs.Tests.{and_both, and-true, and-false, or-none
 use Rattle.meaning_list_laws.specs.Lists.{member-append, member-none, member-cons, member-one, member-snoc, member-tail, member-head, count_none, count-cons, count-absent, meet-old, meet-new}
 use Rattle.meaning_mends.specs.Mends.{Child, a_region, a_shell, a_loop, a_fin, named, Meeting, met, meetings, same_child, once, body_there, lists_refusal, fits, changes, mend_refusal, mended}
 use Rattle.meaning_mends.specs.Laws.{child-of, Has, Each, wants_all, Met, all-mended}
-use Rattle.meaning_mend_laws.specs.Terms.{linked, listing, ids_of, reached, parent_by, new_parent, naming, new_listing, OnlyOf, SameLists, SameWalks, FinsListed}
+use Rattle.meaning_mend_laws.specs.Terms.{linked, listing, ids_of, reached, parent_by, new_parent, naming, new_listing, OnlyOf, SameLists, SameWalks}
 use Rattle.meaning_mend_laws.specs.Steps.{mended-is}
 
 -- ---- a mending that is not refused
@@ -165,16 +165,6 @@ only-own m b =
       parents = λ k i h. refl;
       lists = λ e. record { new = []; behind = sym (append-nil (listing m e)); fins = λ i h. absurd (false≢true (sym (member-none i) ∙ h)); once = λ i. omega (arith, count_none i) };
     }
-
--- where no fin is absent, none is added
-pub none-new : (m : Model) (b : ℕ) → FinsListed m b → (e : ℕ) → new_listing m b e ≡ listing m e
-none-new m b h e = let l = (only_of m b).lists e in l.behind ∙ by l.new l.fins
-  where
-    by : (new : List ℕ) → ((i : ℕ) → member i new ≡ true → (member i (reached m b a_fin) ≡ true) × ((fin m i).edge ≡ e) × (member i (listing m e) ≡ false)) → listing m e ++ new ≡ listing m e
-    by [] f = append-nil (listing m e)
-    by (i ∷ new) f =
-        let at = f i (member-head i new) in
-        absurd (false≢true (sym at.2 ∙ sym (ap (λ d. member i (listing m d)) at.1) ∙ h i at.0))
 
 -- ---- the pointers of the model behind a mending
 

@@ -8,7 +8,8 @@ use Rattle.meaning.specs.Faults.{CheckOptions, kept}
 use Rattle.meaning.specs.Offices.{office_refusal, body_for}
 use Rattle.meaning_isolation.specs.Told.{SameAnswers}
 use Rattle.meaning_isolation.specs.Offices.{OfficeAlike, OthersDiffer}
-use Rattle.meaning_isolation.specs.Statements.{office-answers, others-make-no-difference}
+use Rattle.meaning_isolation.proofs.Statements.{office-answers}
+use Rattle.meaning_isolation.proofs.Others.{others-make-no-difference}
 use Rattle.memory_layout.specs.Names.{FACES, EDGES, VERTICES}
 use Rattle.memory_layout.specs.Decode.{decode}
 use Rattle.memory_layout.specs.Readable.{readable}

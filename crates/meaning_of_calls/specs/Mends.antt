@@ -14,7 +14,9 @@ use Rattle.memory_offices.specs.Sight.{by_office}
 use Rattle.meaning_mends.specs.Mends.{changes, mended, mend_refusal, mend}
 use Rattle.meaning_mends.specs.Words.{changes_words}
 use Rattle.mend_meetings.specs.Machine.{MARKS}
-use Rattle.mend_effects.specs.Statements.{HoldsMended, mending-holds, second-run-none}
+use Rattle.mend_effects.specs.Statements.{HoldsMended}
+use Rattle.mend_effects.proofs.Statements.{mending-holds}
+use Rattle.mend_effects.proofs.SecondRun.{second-run-none}
 use Rattle.mend_body.specs.Answers.{mend_number}
 use Rattle.office_mends.specs.Answers.{office_mend_number, office_mend_count, office_mend_list, office_mend_words}
 

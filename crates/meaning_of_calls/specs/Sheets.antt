@@ -12,7 +12,7 @@ use Rattle.geom_lines_planes.specs.Refuse.{◌unless◌, ◌then◌}
 use Rattle.meaning.specs.Offices.{office_refusal, body_for}
 use Rattle.meaning_sheets.specs.Sheets.{Stone, Sheet, six_volume, stone_refusal, with_stone, sheet_readable, take_refusal, stone_of, where_taken, sheet_after}
 use Rattle.meaning_list_laws.specs.Tests.{then-zero, then-assoc, unless-zero}
-use Rattle.meaning_sheet_laws.specs.Sizes.{stone-taken}
+use Rattle.meaning_sheet_laws.proofs.Sizes.{stone-taken}
 use Rattle.meaning_isolation.specs.Told.{body_stone}
 use Rattle.meaning_isolation.specs.Weighed.{told-number, told-stone}
 use Rattle.memory_layout.specs.Names.{FACES}

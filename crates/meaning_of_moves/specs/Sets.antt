@@ -23,7 +23,7 @@ use Rattle.memory_layout.specs.Readable.{readable}
 use Rattle.memory_writes.specs.Change.{SameTable, SameModel}
 use Rattle.edit_core.specs.Answers.{edit_number}
 use Rattle.edit_effects.specs.Meant.{with_vertices}
-use Rattle.edit_effects.specs.Statements.{set-vertex}
+use Rattle.edit_effects.proofs.Statements.{set-vertex}
 use Rattle.split_effect.specs.Statements.{same-model}
 use Rattle.split_sequences.specs.Same.{same-trans}
 use Rattle.meaning_of_moves.specs.Moves.{Lent, lent_model, Moved, vertex_set, all_set, set_numbers, body_set, body_numbers}

@@ -8,8 +8,8 @@ use Rattle.meaning.specs.Split.{Cut, after_all}
 use Rattle.meaning.specs.Offices.{OfficeCut}
 use Rattle.meaning_sheets.specs.Sheets.{Corner, corner, grid_point, six_volume, stone_refusal}
 use Rattle.meaning_shift.specs.Moving.{Movable, Shifted, moved}
-use Rattle.meaning_shift.specs.Grid.{float-shift}
-use Rattle.meaning_shift.specs.Statements.{splits-keep-it-movable}
+use Rattle.meaning_shift.proofs.Grid.{float-shift}
+use Rattle.meaning_shift.proofs.Statements.{splits-keep-it-movable}
 use Rattle.meaning_of_calls.specs.Sheets.{take_same, sheet-same}
 use Rattle.memory_layout.specs.Names.{FACES}
 use Rattle.memory_layout.specs.Decode.{decode}

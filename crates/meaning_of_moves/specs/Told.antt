@@ -12,9 +12,10 @@ use Rattle.meaning_isolation.specs.Laws.{and_same}
 use Rattle.meaning_isolation.specs.Told.{body_stone}
 use Rattle.meaning_isolation.specs.Offices.{own}
 use Rattle.meaning_isolation.specs.Asked.{there-for, own-itself, no-such-body}
-use Rattle.meaning_isolation.specs.Weighed.{stone-same, six-volume-same}
+use Rattle.meaning_isolation.proofs.Weighed.{six-volume-same}
+use Rattle.meaning_isolation.proofs.Stones.{stone-same}
 use Rattle.meaning_shift.specs.Moving.{Movable, placed, Shifted}
-use Rattle.meaning_shift.specs.Statements.{moving-keeps-the-volume, moving-keeps-the-refusal}
+use Rattle.meaning_shift.proofs.Statements.{moving-keeps-the-volume, moving-keeps-the-refusal}
 use Rattle.memory_writes.specs.Change.{SameModel}
 use Rattle.split_sequences.specs.Walked.{alike}
 

@@ -1,21 +1,21 @@
 -- What splits by both offices keep ("Demand 3 holds for splits by both offices in any order"), for every model, every limit record and every list of split requests, each of an office, accepted or
 -- refused: the statements of `meaning_split_laws`, in its order and words. Then which edges an office may split, and one office alone (W-206). Assumes nothing.
-use Rattle.std.specs.Prelude.{ℕ, zero, suc, ◌<◌, ◌↔◌, ◌≡◌, true, false, List, [], ◌∷◌, ◌++◌, leb, get_or, Float}
-use Rattle.std.proofs.Common.{arith, ap, ◌∙◌, lt-ltb, leb-true}
-use Rattle.meaning.specs.Model.{Model, Limits, office-0, office-1, body, shell}
+use Rattle.std.specs.Prelude.{ℕ, ◌<◌, ◌↔◌, ◌≡◌, true, false, List, ◌∷◌, ◌++◌, leb, Float}
+use Rattle.std.proofs.Common.{ap, ◌∙◌}
+use Rattle.meaning.specs.Model.{Model, Limits, body, shell}
 use Rattle.meaning.specs.Refuse.{refused, given}
-use Rattle.meaning.specs.Split.{test1, EdgeSplit, split_line_edge, model_after}
+use Rattle.meaning.specs.Split.{EdgeSplit, split_line_edge, model_after}
 use Rattle.meaning.specs.Faults.{whole_solid}
 use Rattle.meaning.specs.Formed.{WellFormed, topological_report, empty_report, has_edge}
-use Rattle.meaning.specs.Offices.{foreign, foreign_edge, office_split_refusal, office_split, office_model_after, OfficeCut, office_after_all}
+use Rattle.meaning.specs.Offices.{foreign, foreign_edge, office_split, office_model_after, OfficeCut, office_after_all}
 use Rattle.meaning_split_laws.specs.Terms.{struck_from, itself, Restored, OneMore, SameWalks, euler_number}
-use Rattle.meaning_split_laws.specs.Rows.{Passes, RefusedAt}
-use Rattle.meaning_split_laws.specs.Refusals.{one-row, answered-given}
+use Rattle.meaning_split_laws.specs.Rows.{RefusedAt}
+use Rattle.meaning_split_laws.specs.Refusals.{one-row}
 use Rattle.meaning_split_laws.specs.Statements as Splits
-use Rattle.meaning_office_laws.specs.Terms.{office_split_edges, office_rows, OneOffice, AsBefore}
+use Rattle.meaning_office_laws.specs.Terms.{office_split_edges, office_rows}
+use Rattle.meaning_split_laws.proofs.Statements as SplitProofs
 use Rattle.meaning_office_laws.specs.Passed.{edge-itself, passed-number, passed-after, none-foreign, split-given, given-after, foreign-from, foreign-in, none_in, none_has, all-passed, edges-passed, passed}
-use Rattle.meaning_office_laws.specs.Refused.{refused-where, refused-only, accepted-where, accepted-only, refused-keeps, other-refused}
-use Rattle.meaning_office_laws.specs.Alone.{as_before}
+use Rattle.meaning_office_laws.specs.Refused.{refused-keeps}
 
 -- 1. "After any sequence of splits, accepted or refused, it is still well formed"
 pub stays-well-formed : (x : Limits) (m : Model) (l : List OfficeCut) → WellFormed x m → WellFormed x (office_after_all x m l)
@@ -33,7 +33,7 @@ all-whole-solid-stays x m l b = rw (all-passed x m l) (Splits.all-whole-solid-st
 -- 3. "An accepted split gives each body that has the edge exactly one more edge and vertex", its faces the same, and leaves the walks of every other body as they were
 module _ (x : Limits) (m : Model) (o e : ℕ) (t : Float) (s : EdgeSplit) (w : WellFormed x m) (a : office_split x m o e t ≡ given s) (b : ℕ) (h : b < m.bodies.used) where
   pub accepted-split-adds-one : has_edge m b e ≡ true → OneMore m (office_model_after x m o e t) b s.new_edge s.vertex
-  accepted-split-adds-one q = rw (given-after x m o e t s a) (Splits.accepted-split-adds-one x m e t s w (split-given x m o e t s a) b h q)
+  accepted-split-adds-one q = rw (given-after x m o e t s a) (SplitProofs.accepted-split-adds-one x m e t s w (split-given x m o e t s a) b h q)
 
   pub accepted-split-leaves-others : has_edge m b e ≡ false → SameWalks m (office_model_after x m o e t) b
   accepted-split-leaves-others q = rw (given-after x m o e t s a) (Splits.accepted-split-leaves-others x m e t s w (split-given x m o e t s a) b h q)
@@ -45,15 +45,15 @@ module _ (x : Limits) (m : Model) (o e : ℕ) (t : Float) (s : EdgeSplit) (w : W
 -- "so vertices minus edges plus faces never changes"
 pub euler-number-stays : (x : Limits) (m : Model) (l : List OfficeCut) → WellFormed x m → (b : ℕ) → b < m.bodies.used
     → euler_number (office_after_all x m l) b ≡ euler_number m b
-euler-number-stays x m l w b h = rw (all-passed x m l) (Splits.euler-number-stays x m (passed x m l) w b h)
+euler-number-stays x m l w b h = rw (all-passed x m l) (SplitProofs.euler-number-stays x m (passed x m l) w b h)
 
 -- 4. "Striking out what was added gives back every stored list in its starting order", and every other field of every old record, a body's office among them, is as it was but for
 -- the end of a split edge
 pub gives_back : (x : Limits) (m : Model) (l : List OfficeCut) → WellFormed x m → Restored m (office_after_all x m l) (office_split_edges x m l) itself
-gives_back x m l w = rw (all-passed x m l, edges-passed x m l) (Splits.gives_back x m (passed x m l) w)
+gives_back x m l w = rw (all-passed x m l, edges-passed x m l) (SplitProofs.gives_back x m (passed x m l) w)
 
 pub gives-back-any : (x : Limits) (m : Model) (l : List OfficeCut) → Restored m (office_after_all x m l) (office_split_edges x m l) struck_from
-gives-back-any x m l = rw (all-passed x m l, edges-passed x m l) (Splits.gives-back-any x m (passed x m l))
+gives-back-any x m l = rw (all-passed x m l, edges-passed x m l) (SplitProofs.gives-back-any x m (passed x m l))
 
 pub carriers-stay : (x : Limits) (m : Model) (l : List OfficeCut) → ((office_after_all x m l).curves ≡ m.curves) × ((office_after_all x m l).surfaces ≡ m.surfaces)
 carriers-stay x m l = rw (all-passed x m l) (Splits.carriers-stay x m (passed x m l))
@@ -72,19 +72,9 @@ pub wire-edge-follows : (x : Limits) (m : Model) (o e : ℕ) (t : Float) (r : Ed
     → (k l : List ℕ) → (shell m s).wire_edges ≡ k ++ (e ∷ l) → (shell (office_model_after x m o e t) s).wire_edges ≡ k ++ (e ∷ r.new_edge ∷ l)
 wire-edge-follows x m o e t r w a s h k l q = rw (given-after x m o e t r a) (Splits.wire-edge-follows x m e t r w (split-given x m o e t r a) s h k l q)
 
--- 5. "Each refusal comes exactly where its row in 01 says", with 1 for the office in front and 2 for a foreign edge in the place of a missing one (`office_rows`: Terms.antt)
-pub refused-by-row : (x : Limits) (m : Model) (o e : ℕ) (t : Float) (n : ℕ)
-    → (office_split x m o e t ≡ refused (suc n)) ↔ ((k : ℕ) × RefusedAt (office_rows x m o e t) k (suc n))
-refused-by-row x m o e t n = (refused-only x m o e t n, λ r. rw (refused-where x m o e t r.0 n r.1))
-
 pub refused-at-one-row : (x : Limits) (m : Model) (o e : ℕ) (t : Float) (j k n i : ℕ)
     → RefusedAt (office_rows x m o e t) j n → RefusedAt (office_rows x m o e t) k i → j ≡ k
 refused-at-one-row x m o e t = one-row (office_rows x m o e t)
-
-pub accepted-by-rows : (x : Limits) (m : Model) (o e : ℕ) (t : Float)
-    → (office_split x m o e t ≡ given (record { original_edge = e; new_edge = m.edges.used; vertex = m.vertices.used }))
-    ↔ ((k : ℕ) → Passes (get_or (office_rows x m o e t) k []))
-accepted-by-rows x m o e t = (λ h. accepted-only x m o e t (answered-given (office_split_refusal x m o e t) _ _ h), λ p. rw (accepted-where x m o e t p))
 
 -- 6. a refused split leaves the model as it was
 pub refused-changes-nothing : (x : Limits) (m : Model) (o e : ℕ) (t : Float) (n : ℕ) → office_split x m o e t ≡ refused n → office_model_after x m o e t ≡ m
@@ -95,26 +85,9 @@ refused-changes-nothing = refused-keeps
 pub foreign-edge-is : (m : Model) (o e : ℕ) → (foreign_edge m o e ≡ true) ↔ ((c : ℕ) × (foreign m o c ≡ true) × (has_edge m c e ≡ true))
 foreign-edge-is m o e = (foreign-from m o e, λ r. foreign-in m o e r.0 r.1 r.2)
 
--- with 2, "in the place of a missing one": behind test 1
-pub foreign-edge-refused : (x : Limits) (m : Model) (o e : ℕ) (t : Float) → leb o 1 ≡ true → test1 t ≡ 0
-    → (c : ℕ) → foreign m o c ≡ true → has_edge m c e ≡ true → office_split x m o e t ≡ refused 2
-foreign-edge-refused x m o e t h f c g q = rw (other-refused x m o e t h f (foreign-in m o e c g q))
-
--- so an edge in walks of both offices is refused to both
-pub shared-edge-refused : (x : Limits) (m : Model) (o e : ℕ) (t : Float) → leb o 1 ≡ true → test1 t ≡ 0 → (b c : ℕ) → b < m.bodies.used → c < m.bodies.used
-    → (body m b).office ≡ office-0 → (body m c).office ≡ office-1 → has_edge m b e ≡ true → has_edge m c e ≡ true → office_split x m o e t ≡ refused 2
-shared-edge-refused x m zero e t h f b c hb hc p q eb ec = foreign-edge-refused x m 0 e t h f c (rw (lt-ltb c m.bodies.used hc, q)) ec
-shared-edge-refused x m (suc zero) e t h f b c hb hc p q eb ec = foreign-edge-refused x m 1 e t h f b (rw (lt-ltb b m.bodies.used hb, p)) eb
-shared-edge-refused x m (suc (suc o)) e t h f b c hb hc p q eb ec = absurd (omega (arith, leb-true (suc (suc o)) 1 h))
-
 -- and one that no body of the other has, be it in the office's own walks or in nobody's, is split as before
 pub other-edges-as-before : (x : Limits) (m : Model) (o e : ℕ) (t : Float) → leb o 1 ≡ true → ((c : ℕ) → foreign m o c ≡ true → has_edge m c e ≡ false)
     → (office_split x m o e t ≡ split_line_edge x m e t) × (office_model_after x m o e t ≡ model_after x m e t)
 other-edges-as-before x m o e t h n =
     let same = edge-itself x m o e t (none_in m o e n) in
     (rw (passed-number x m o e t h, same), passed-after x m o e t h ∙ ap (λ k. model_after x m k t) same)
-
--- ---- with one office alone every answer and every split is the one of before
-
-pub one-office-as-before : (m : Model) (o : ℕ) → OneOffice m o → AsBefore m o
-one-office-as-before = as_before

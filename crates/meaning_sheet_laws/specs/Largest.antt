@@ -1,14 +1,13 @@
--- The sheet's largest stone is the first greatest of those taken, and there is only one such. Assumes nothing.
+-- What the sheet keeps as its largest stone, of the stones so far and of one more; and a list has one first greatest. Assumes nothing.
 use Rattle.std.specs.Prelude.{◌≡◌, Bool, true, false, cond, ◌&&◌, ◌↔◌, T, ℤ, pos, negsuc, ◌≤ℤ◌, ◌<ℤ◌}
 use Rattle.std.proofs.Math.Path.{refl}
 use Rattle.std.proofs.Common.{sym, ap, ◌∙◌, subst, arith, le-leb, ltb-true}
-use mathlib.Core.List.{List, [], ◌∷◌, ◌++◌, append-nil, append_assoc, head-eq_of_cons-eq, tail-eq_of_cons-eq, cons-ne-nil}
+use mathlib.Core.List.{List, [], ◌∷◌, ◌++◌, append_assoc, head-eq_of_cons-eq, tail-eq_of_cons-eq, cons-ne-nil}
 use Rattle.std.proofs.Math.Option.{Option, none, some, none-ne-some}
 use Rattle.std.specs.Int.Signed.{lt_z, le_z, lt_z_yes, le_z_yes, lt_z_no, ≤ℤ_refl, <ℤ-≤ℤ_trans, clash_ℤ}
 use Rattle.meaning_list_laws.specs.Tests.{and_both, and_assoc}
-use Rattle.meaning_sheets.specs.Sheets.{Stone, Sheet, larger, with_stone}
+use Rattle.meaning_sheets.specs.Sheets.{Stone, larger}
 use Rattle.meaning_sheet_laws.specs.Terms.{all_stones, smaller, not_larger, FirstGreatest}
-use Rattle.meaning_sheet_laws.specs.Takes.{with_stones}
 
 -- ---- tests of all stones of a list
 
@@ -75,7 +74,7 @@ alone : (s : Stone) → FirstGreatest s (s ∷ [])
 unfolding all_stones
 alone s = record { front = []; back = []; listed = refl; front-smaller = refl; none-larger = rw (at_most s.number s.number (≤ℤ_refl s.number)) }
 
-one_more : (o : Option Stone) (k : List Stone) (s : Stone) → Kept o k → Kept (some (larger o s)) (k ++ (s ∷ []))
+pub one_more : (o : Option Stone) (k : List Stone) (s : Stone) → Kept o k → Kept (some (larger o s)) (k ++ (s ∷ []))
 unfolding Kept
 one_more none k s h = rw h (alone s)
 one_more (some t) k s h = by (lt_z t.number s.number) refl
@@ -98,13 +97,6 @@ one_more (some t) k s h = by (lt_z t.number s.number) refl
           front-smaller = h.front-smaller;
           none-larger = all_more (not_larger t) k s h.none-larger (not-less t.number s.number q);
         }
-
-pub kept : (h : Sheet) (k l : List Stone) → Kept h.largest k → Kept (with_stones h l).largest (k ++ l)
-unfolding with_stones with_stone
-kept h k [] a = rw (append-nil k) a
-kept h k (s ∷ l) a =
-    subst (λ (r : List Stone). Kept (with_stones (with_stone h s) l).largest r) (append_assoc k (s ∷ []) l)
-    (kept (with_stone h s) (k ++ (s ∷ [])) l (one_more h.largest k s a))
 
 -- ---- a list has one first greatest
 
@@ -129,7 +121,7 @@ one-greatest l g k a b = go a.front b.front (sym a.listed ∙ b.listed) a.front-
     go (s ∷ f) (t ∷ e) q h i = go f e (tail-eq_of_cons-eq q) (and_both (smaller g s) (all_stones (smaller g) f) h).1 (and_both (smaller k t) (all_stones (smaller k) e) i).1
 
 -- and an empty one has none
-none-of-none : (l : List Stone) (g : Stone) → FirstGreatest g l → l ≡ [] → ⊥
+pub none-of-none : (l : List Stone) (g : Stone) → FirstGreatest g l → l ≡ [] → ⊥
 none-of-none l g f e = filled f.front (sym f.listed ∙ e)
   where
     filled : (k : List Stone) → k ++ (g ∷ f.back) ≡ [] → ⊥
@@ -142,8 +134,3 @@ pub kept-none : (o : Option Stone) (l : List Stone) → Kept o l → (o ≡ none
 unfolding Kept
 kept-none none l h = (λ _. h, λ _. refl)
 kept-none (some g) l h = (λ e. absurd (none-ne-some g (sym e)), λ e. absurd (none-of-none l g h e))
-
-pub kept-some : (o : Option Stone) (l : List Stone) (g : Stone) → Kept o l → (o ≡ some g) ↔ FirstGreatest g l
-unfolding Kept
-kept-some none l g h = (λ e. absurd (none-ne-some g e), λ f. absurd (none-of-none l g f h))
-kept-some (some k) l g h = (λ e. subst (λ (p : Option Stone). Kept p l) e h, λ f. ap some (one-greatest l k g h f))

@@ -1,17 +1,16 @@
--- The same bodies asked for in another order: where the sheet has room for all of them, the same stones are taken, and their number and sum are the same. Assumes nothing.
-use Rattle.std.specs.Prelude.{ℕ, zero, suc, ◌+◌, ◌≤◌, ◌≡◌, refl, true, ℤ, ◌+ℤ◌, length}
+-- The same asks in another order: they are as many, and their stones have the same sum; and what stone an ask gives where there is room. Assumes nothing.
+use Rattle.std.specs.Prelude.{ℕ, zero, suc, ◌≡◌, refl, ℤ, ◌+ℤ◌, length}
 use Rattle.std.proofs.Math.Nat.{ℕ_set}
-use Rattle.std.proofs.Common.{arith, sym, ap, ap₂, ◌∙◌}
+use Rattle.std.proofs.Common.{sym, ap, ap₂, ◌∙◌}
 use Rattle.std.proofs.Math.Logic.{∥∥₁_elim}
-use mathlib.Core.List.Perm
-use mathlib.Core.List.{List, [], ◌∷◌, filter_map, Perm, Permᴰ}
-use Rattle.std.proofs.Math.Option.{Option, none, some, Option-elim}
+use mathlib.Core.List.{List, Perm, Permᴰ}
+use Rattle.std.proofs.Math.Option.{Option, none, some}
 use Rattle.std.proofs.Math.IntN.{+ℤ_assoc, +ℤ_comm, ℤ_set}
 use Rattle.meaning.specs.Model.{Model}
 use Rattle.meaning.specs.Offices.{body_for}
-use Rattle.meaning_sheets.specs.Sheets.{Stone, Sheet, sheet_readable, stone_of, sheet_after, Ask}
-use Rattle.meaning_sheet_laws.specs.Terms.{listed_where_taken, taken_stones, sum_of}
-use Rattle.meaning_sheet_laws.specs.Takes.{own_refusal, own-refusal, stays-readable, one_more}
+use Rattle.meaning_sheets.specs.Sheets.{Stone, stone_of, Ask}
+use Rattle.meaning_sheet_laws.specs.Terms.{sum_of}
+use Rattle.meaning_sheet_laws.specs.Takes.{own_refusal}
 
 -- ---- lists that are the same but for their order
 
@@ -40,30 +39,9 @@ same_sum p = ∥∥₁_elim p (ℤ_set _ _) each
 
 -- ---- with room, whether a body is taken does not depend on the sheet
 
-abbrev stone_where : ℕ → Stone → Option Stone
+abbrev pub stone_where : ℕ → Stone → Option Stone
 stone_where zero s = some s
 stone_where (suc n) s = none
 
-unfoldable asked_stone : Model → Ask → Option Stone
+unfoldable pub asked_stone : Model → Ask → Option Stone
 asked_stone m a = stone_where (own_refusal m a.office a.body) (stone_of m (body_for m a.office a.body))
-
-taken-asked : (m : Model) (l : List Ask) (h : Sheet) → sheet_readable h ≡ true → h.stones + length l ≤ 65536 → taken_stones m l h ≡ filter_map (asked_stone m) l
-unfolding taken_stones asked_stone filter_map Option-elim
-taken-asked m [] h r q = refl
-taken-asked m (a ∷ l) h r q =
-    ap₂ (λ (n : ℕ) (k : List Stone). listed_where_taken n s k) (own-refusal m a.office a.body h r (omega arith))
-    (taken-asked m l (sheet_after m a.office a.body h) (stays-readable m a.office a.body h r) (omega (arith, one_more m a.office a.body h)))
-    ∙ by (own_refusal m a.office a.body) (filter_map (asked_stone m) l)
-  where
-    s : Stone
-    s = stone_of m (body_for m a.office a.body)
-
-    by : (n : ℕ) (k : List Stone) → listed_where_taken n s k ≡ Option-elim (stone_where n s) k (λ (t : Stone). t ∷ k)
-    by zero k = refl
-    by (suc n) k = refl
-
-pub same-stones : (m : Model) (l k : List Ask) (h : Sheet) → Perm l k → sheet_readable h ≡ true → h.stones + length l ≤ 65536
-    → Perm (taken_stones m l h) (taken_stones m k h)
-same-stones m l k h p r q =
-    let e : length l ≡ length k = same_length p in
-    rw (taken-asked m l h r q, taken-asked m k h r (omega arith)) (Perm.filter_map (asked_stone m) p)

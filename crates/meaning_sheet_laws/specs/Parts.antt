@@ -1,16 +1,15 @@
 -- A sum over sides as the difference of two natural numbers, the sum of what is above zero and of what is below, which the code keeps apart. Assumes nothing.
-use Rattle.std.specs.Prelude.{ℕ, zero, suc, ◌+◌, ◌*◌, ◌^◌, ◌≤◌, ◌≡◌, false, ltb, ℤ, pos, negsuc, nat_abs, ◌-ℤ◌}
+use Rattle.std.specs.Prelude.{ℕ, zero, suc, ◌+◌, ◌≤◌, ◌≡◌, false, ltb, ℤ, pos, negsuc, nat_abs, ◌-ℤ◌}
 use native.Mathlib.Omega.{arith}
 use Rattle.std.proofs.Math.Path.{refl}
 use Rattle.std.proofs.Common.{ap, le-ltb}
 use mathlib.Core.List.{List, [], ◌∷◌, ◌++◌}
 use Rattle.std.proofs.Math.IntN.{sub_ℕ}
 use Rattle.float_values.specs.Laws.Pairs.{over, under}
-use Rattle.float_values.specs.Laws.Integers.{sum-parts, diff-parts, same_parts}
+use Rattle.float_values.specs.Laws.Integers.{sum-parts, diff-parts}
 use Rattle.meaning.specs.Model.{Model}
 use Rattle.meaning.specs.Inquire.{Side}
-use Rattle.meaning_sheets.specs.Sheets.{whole_side, whole_sum, triangles}
-use Rattle.meaning_sheet_laws.specs.Sizes.{side-size}
+use Rattle.meaning_sheets.specs.Sheets.{whole_side, whole_sum}
 
 -- ---- a whole number's part f, over the sides
 
@@ -33,11 +32,6 @@ module _ (f : ℤ → ℕ) (m : Model) where
   unfolding part_sum
   part-more [] s = omega arith
   part-more (t ∷ l) s = rw (part-more l s) (omega arith)
-
-  part-size : ((a : ℤ) → f a ≤ nat_abs a) → (l : List Side) → part_sum f m l ≤ 3 * 2 ^ 48 * triangles m l
-  unfolding part_sum triangles
-  part-size h [] = omega arith
-  part-size h (s ∷ l) = omega (arith, h (whole_side m s), side-size m s, part-size h l)
 
 pub over-size : (a : ℤ) → over a ≤ nat_abs a
 over-size (pos n) = omega arith
@@ -63,16 +57,7 @@ module _ (m : Model) where
   pub minus-more : (l : List Side) (s : Side) → minus_sum m (l ++ (s ∷ [])) ≡ minus_sum m l + under (whole_side m s)
   minus-more = part-more under m
 
-  pub plus-size : (l : List Side) → plus_sum m l ≤ 3 * 2 ^ 48 * triangles m l
-  plus-size = part-size over m over-size
-
-  pub minus-size : (l : List Side) → minus_sum m l ≤ 3 * 2 ^ 48 * triangles m l
-  minus-size = part-size under m under-size
-
-  both_sums : (l : List Side) → over (whole_sum m l) + minus_sum m l ≡ under (whole_sum m l) + plus_sum m l
+  pub both_sums : (l : List Side) → over (whole_sum m l) + minus_sum m l ≡ under (whole_sum m l) + plus_sum m l
   unfolding part_sum whole_sum
   both_sums [] = refl
   both_sums (s ∷ l) = omega (arith, sum-parts (whole_side m s) (whole_sum m l), both_sums l)
-
-  pub sum_is : (l : List Side) → whole_sum m l ≡ sub_ℕ (plus_sum m l) (minus_sum m l)
-  sum_is l = same_parts (whole_sum m l) (sub_ℕ (plus_sum m l) (minus_sum m l)) (omega (arith, sub_parts (plus_sum m l) (minus_sum m l), both_sums l))

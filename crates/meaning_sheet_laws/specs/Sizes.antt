@@ -18,7 +18,7 @@ use Rattle.meaning.specs.Model.{Model, point_of}
 use Rattle.meaning.specs.Refuse.{◌if◌}
 use Rattle.meaning.specs.Inquire.{Side, solid_sides, rim, start_of, inward, volume_refusal}
 use Rattle.meaning_list_laws.specs.Tests.{and-true, and_assoc, then-zero}
-use Rattle.meaning_sheets.specs.Sheets.{Corner, corner, minus_c, dot_c, cross_c, wedge, whole_fan, whole_polygon, side_points, whole_side, whole_sum, six_volume, grid_points, grid_sides, triangles, stone_refusal}
+use Rattle.meaning_sheets.specs.Sheets.{Corner, minus_c, dot_c, cross_c, wedge, whole_fan, whole_polygon, side_points, whole_side, whole_sum, grid_points, grid_sides, triangles, stone_refusal}
 
 -- ---- sizes of sums, differences and products
 
@@ -92,10 +92,6 @@ pub record Within (n : ℕ) (c : Corner) : Type 0 where
 abbrev pub Small : Corner → Type 0
 Small = Within 32768
 
-pub corner-small : (p : Point3) → Small (corner p)
-unfolding corner
-corner-small p = record { x = sixteenths-size p.x; y = sixteenths-size p.y; z = sixteenths-size p.z }
-
 -- ---- a wedge, step by step: each bound is the one before, as the code meets them
 
 -- p - o
@@ -153,11 +149,6 @@ unfoldable pub AllSmall : List Corner → Type 0
 AllSmall [] = Unit {0}
 AllSmall (c ∷ l) = Small c × AllSmall l
 
-pub corners-small : (l : List Point3) → AllSmall (map corner l)
-unfolding AllSmall
-corners-small [] = tt
-corners-small (p ∷ l) = (corner-small p, corners-small l)
-
 pub fan-size : (o : Corner) (l : List Corner) → Small o → AllSmall l → nat_abs (whole_fan o l) ≤ 3 * 2 ^ 48 * (length l - 1)
 unfolding whole_fan AllSmall
 fan-size o [] h g = omega arith
@@ -189,21 +180,7 @@ module _ (m : Model) where
       by true = length-reverse points ∙ length-map (rim m s.face) _
       by false = length-map (rim m s.face) _
 
-  pub side-size : (s : Side) → nat_abs (whole_side m s) ≤ 3 * 2 ^ 48 * (length (rim m s.face) - 2)
-  unfolding whole_side
-  side-size s =
-      subst (λ (n : ℕ). nat_abs (whole_side m s) ≤ 3 * 2 ^ 48 * (n - 2)) (length-map (side_points m s) corner ∙ points-length s)
-      (polygon-size (map corner (side_points m s)) (corners-small (side_points m s)))
-
-  pub sum-size : (l : List Side) → nat_abs (whole_sum m l) ≤ 3 * 2 ^ 48 * triangles m l
-  unfolding whole_sum triangles
-  sum-size [] = omega arith
-  sum-size (s ∷ l) = omega (arith, size-sum (whole_side m s) (whole_sum m l), side-size s, sum-size l)
-
   module _ (b : ℕ) where
-    pub stone-size : triangles m (solid_sides m b) ≤ 4096 → nat_abs (six_volume m b) ≤ 3 * 2 ^ 60
-    stone-size h = omega (arith, sum-size (solid_sides m b))
-
     pub stone-triangles : stone_refusal m b ≡ 0 → triangles m (solid_sides m b) ≤ 4096
     unfolding stone_refusal
     stone-triangles h = few (ltb 4096 n) (ltb-false 4096 n) (then-zero (5 unless grid_sides m (solid_sides m b)) (8 if ltb 4096 n) (then-zero (volume_refusal m b) _ h).1).1
@@ -214,9 +191,6 @@ module _ (m : Model) where
         few : (t : Bool) → (t ≡ false → n ≤ 4096) → 8 if t ≡ 0 → n ≤ 4096
         few true f z = absurd (omega arith)
         few false f z = f refl
-
-    pub stone-taken : stone_refusal m b ≡ 0 → nat_abs (six_volume m b) ≤ 3 * 2 ^ 60
-    stone-taken h = stone-size (stone-triangles h)
 
   -- ---- one side more, as a loop over the sides meets it
 

@@ -1,4 +1,4 @@
--- A row of takes as the row of its stones, each added to the sheet; and that a readable sheet stays readable. Assumes nothing.
+-- A row of takes as the row of its stones, each added to the sheet; what a readable sheet is, and what one take is refused for. Assumes nothing.
 use Prim.Native.Nat.{ℕ, zero, suc, ◌+◌, ◌*◌, ◌^◌, ◌≤◌, ◌<◌}
 use native.Mathlib.Omega.{arith}
 use Rattle.std.specs.Prelude.{◌≡◌, true, List, [], ◌∷◌, leb, nat_abs, ◌+ℤ◌, length}
@@ -12,7 +12,6 @@ use Rattle.meaning.specs.Model.{Model}
 use Rattle.meaning.specs.Offices.{office_refusal, body_for}
 use Rattle.meaning_list_laws.specs.Tests.{and_both, then-zero, then-none, unless-zero}
 use Rattle.meaning_sheets.specs.Sheets.{Stone, Sheet, with_stone, sheet_readable, stone_refusal, take_refusal, stone_of, where_taken, sheet_after, Ask, after_takes}
-use Rattle.meaning_sheet_laws.specs.Sizes.{size-sum, stone-taken}
 use Rattle.meaning_sheet_laws.specs.Terms.{listed_where_taken, taken_stones, sum_of}
 
 -- ---- stones added one after the other
@@ -77,21 +76,6 @@ module _ (m : Model) (o b : ℕ) (h : Sheet) where
   pub own-refusal : sheet_readable h ≡ true → h.stones < 65536 → take_refusal m o b h ≡ own_refusal m o b
   unfolding take_refusal
   own-refusal r q = rw (r, lt-ltb h.stones 65536 q, then-none (stone_refusal m (body_for m o b)))
-
-  pub stays-readable : sheet_readable h ≡ true → sheet_readable (sheet_after m o b h) ≡ true
-  unfolding sheet_after with_stone
-  stays-readable r = by (take_refusal m o b h) refl
-    where
-      s : Stone
-      s = stone_of m (body_for m o b)
-
-      added : stone_refusal m (body_for m o b) ≡ 0 → h.stones < 65536 → Readable h → Readable (with_stone h s)
-      added z q p =
-          record { few = q; total-small = omega (arith, p.total-small, size-sum h.total s.number, stone-taken m (body_for m o b) z) }
-
-      by : (n : ℕ) → take_refusal m o b h ≡ n → sheet_readable (where_taken n h (with_stone h s)) ≡ true
-      by zero z = readable-if (with_stone h s) (added (taken-means z).0 (taken-means z).1 (readable-means h r))
-      by (suc n) z = r
 
   pub one_more : (sheet_after m o b h).stones ≤ suc h.stones
   unfolding sheet_after with_stone

@@ -1,13 +1,12 @@
 -- What the statement asks, computed: the trial stone meets it; without its lid, or with a lid that is another body's, the number would change. Assumes nothing.
 use Rattle.std.proofs.Common.{arith}
-use Rattle.std.specs.Prelude.{◌≡◌, refl, true, false, List, [], ◌∷◌, eqb, pos, take}
+use Rattle.std.specs.Prelude.{◌≡◌, refl, true, false, [], ◌∷◌, eqb, pos, take}
 use Rattle.std.proofs.Math.Option.{some}
 use Rattle.float_vectors.specs.declared.vector.Point3.{Point3}
 use Rattle.meaning.specs.Floats.{float_of}
 use Rattle.meaning.specs.Lists.{member, count_if}
 use Rattle.meaning.specs.Model.{Model, sheet, office-0, positive, changed, largest, body, region, face, point_of}
 use Rattle.meaning.specs.Inquire.{is_solid}
-use Rattle.meaning.specs.Split.{Cut, after_all}
 use Rattle.meaning.specs.Formed.{well_formed, empty_report, topological_report}
 use Rattle.meaning.specs.Stone.{table_of, a_shell, a_region, stone}
 use Rattle.meaning.specs.Computing.{computing}
@@ -15,7 +14,6 @@ use Rattle.meaning_sheets.specs.Sheets.{six_volume, stone_refusal}
 use Rattle.meaning_sheets.specs.Counting.{counting}
 use Rattle.meaning_split_laws.specs.Decided.{decided}
 use Rattle.meaning_shift.specs.Moving.{Movable, one_loop_each, backs_within, fronts_outside, fins_own, ends_there, placed, moved}
-use Rattle.meaning_shift.specs.Statements.{adding-keeps-the-volume, splits-keep-it-movable}
 
 pub stone-movable : Movable largest stone 0 1
 unfolding computing
@@ -38,15 +36,6 @@ stone-movable =
 -- 5 mm along, 7 back and 1 up
 abbrev pub way : Point3
 way = record { x = float_of 5; y = float_of 7; z = float_of 1 }
-
--- "The trial stone gives 589,824", there too
-stone-moved : six_volume (placed stone 0 (λ v. moved way (point_of stone v))) 0 ≡ pos 589824
-unfolding computing counting placed
-stone-moved = adding-keeps-the-volume largest stone 0 1 stone-movable way refl refl refl
-
--- "stays met by a split", whatever edges are split and where
-stone-split-movable : (l : List Cut) → Movable largest (after_all largest stone l) 0 1
-stone-split-movable = splits-keep-it-movable largest stone 0 1 stone-movable
 
 -- ---- what the sentence is needed for
 

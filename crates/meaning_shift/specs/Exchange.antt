@@ -1,5 +1,5 @@
 -- The other fin of an edge: it runs from the end to the start, and to exchange each fin for the other permutes the fins of a movable body. Assumes nothing.
-use Rattle.std.specs.Prelude.{ℕ, ◌<◌, ◌≡◌, refl, Bool, true, false, cond, ◌&&◌, ◌||◌, List, [], ◌∷◌, ◌++◌, eqb, ltb, ℤ, pos}
+use Rattle.std.specs.Prelude.{ℕ, ◌<◌, ◌≡◌, refl, Bool, true, false, cond, ◌&&◌, ◌||◌, List, [], ◌∷◌, ◌++◌, eqb, ltb, ℤ}
 use Rattle.std.proofs.Common.{arith, sym, ◌∙◌, subst}
 use Rattle.std.proofs.Math.Path.{ap, ap₂}
 use Rattle.std.proofs.lemmas.Bool.{false≢true}
@@ -18,9 +18,8 @@ use Rattle.meaning_split_laws.specs.Report.{TwoFins, two-fins}
 use Rattle.meaning_split_laws.specs.Walked.{edges-there, edges-given}
 use Rattle.meaning_sheets.specs.Sheets.{Corner, corner}
 use Rattle.meaning_shift.specs.Corners.{lever, lever-turned}
-use Rattle.meaning_shift.specs.Sums.{sum_over, sum-none, exchanged}
 use Rattle.meaning_shift.specs.Moving.{Movable}
-use Rattle.meaning_shift.specs.Fins.{body_fins, fin-from, fin-below, edge-walked, rim-in, body-fin, fins-once}
+use Rattle.meaning_shift.specs.Fins.{body_fins, fin-from, fin-below, edge-walked, rim-in, body-fin}
 
 -- of two fins, the one that is not i
 abbrev other : ℕ → List ℕ → ℕ
@@ -66,11 +65,11 @@ turned-end negative negative d h = absurd (false≢true (sym h))
 abbrev pub partner : Model → ℕ → ℕ
 partner m i = other i (edge m (fin m i).edge).fins
 
-record Opposite (m : Model) (i j : ℕ) : Type 0 where
-  same-edge : (fin m j).edge ≡ (fin m i).edge
-  senses : same_sense (fin m i).sense (fin m j).sense ≡ false
-  back : partner m j ≡ i
-  listed : member j (edge m (fin m i).edge).fins ≡ true
+pub record Opposite (m : Model) (i j : ℕ) : Type 0 where
+  pub same-edge : (fin m j).edge ≡ (fin m i).edge
+  pub senses : same_sense (fin m i).sense (fin m j).sense ≡ false
+  pub back : partner m j ≡ i
+  pub listed : member j (edge m (fin m i).edge).fins ≡ true
 
 module _ (m : Model) (i a c : ℕ) (both : (edge m (fin m i).edge).fins ≡ (a ∷ c ∷ [])) (senses : same_sense (fin m a).sense (fin m c).sense ≡ false)
     (ea : (fin m a).edge ≡ (fin m i).edge) (ec : (fin m c).edge ≡ (fin m i).edge) where
@@ -157,10 +156,10 @@ module _ (x : Limits) (m : Model) (b r : ℕ) (k : Movable x m b r) where
           rw (lt-ltb a m.fins.used (listed_below (fin m i).edge a he la), lt-ltb c m.fins.used (listed_below (fin m i).edge c he lc)) at senses in
           other-is m i a c both differ (listed-names (fin m i).edge a he la) (listed-names (fin m i).edge c he lc) (sym (ap (member i) both) ∙ fin-listed i hi)
 
-  fin-opposite : (i : ℕ) → member i (body_fins m b) ≡ true → Opposite m i (partner m i)
+  pub fin-opposite : (i : ℕ) → member i (body_fins m b) ≡ true → Opposite m i (partner m i)
   fin-opposite i h = let f = fin-from x m b r k i h in opposite i (fin-below x m b r k f.0 f.1 i f.2) (edge-walked x m b r k f.0 f.1 i f.2)
 
-  partner-in : (i : ℕ) → member i (body_fins m b) ≡ true → member (partner m i) (body_fins m b) ≡ true
+  pub partner-in : (i : ℕ) → member i (body_fins m b) ≡ true → member (partner m i) (body_fins m b) ≡ true
   partner-in i h =
       let f = fin-from x m b r k i h in
       let e = edge-walked x m b r k f.0 f.1 i f.2 in
@@ -171,7 +170,7 @@ module _ (x : Limits) (m : Model) (b r : ℕ) (k : Movable x m b r) where
       (rim-in x m b r k (loop m (fin m (partner m i)).owner).face own (partner m i) (listed_below (fin m i).edge (partner m i) (edge-below (fin m i).edge e) two.listed) refl)
 
   -- the other fin adds the same with the other sign
-  lever-other : (t : Corner) (i : ℕ) → member i (body_fins m b) ≡ true → fin_lever m t (partner m i) ≡ neg_ℤ (fin_lever m t i)
+  pub lever-other : (t : Corner) (i : ℕ) → member i (body_fins m b) ≡ true → fin_lever m t (partner m i) ≡ neg_ℤ (fin_lever m t i)
   unfolding fin_lever
   lever-other t i h = go (partner m i) (fin-opposite i h)
     where
@@ -182,9 +181,3 @@ module _ (x : Limits) (m : Model) (b r : ℕ) (k : Movable x m b r) where
           let e : (ends_of m j).end ≡ (ends_of m i).start = ap (λ (d : Ends). d.end) same ∙ turned-end (fin m i).sense (fin m j).sense (edge m (fin m i).edge) two.senses in
           ap₂ (λ (u : Option ℕ) (v : Option ℕ). lever t (corner (point_of m (the u))) (corner (point_of m (the v)))) s e
           ∙ lever-turned t (start_corner m i) (end_corner m i)
-
-  -- so all of them add nothing
-  pub fins-add-nothing : (t : Corner) → sum_over (fin_lever m t) (body_fins m b) ≡ pos 0
-  fins-add-nothing t =
-      sum-none (fin_lever m t) (partner m) (body_fins m b)
-      (exchanged (partner m) (body_fins m b) (fins-once x m b r k) partner-in (λ i h. (fin-opposite i h).back)) (lever-other t)

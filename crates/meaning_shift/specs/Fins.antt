@@ -1,6 +1,6 @@
 -- The fins of a movable body: each stands once in the loops of its solid sides, and the other fin of its edge stands there too, turned. Assumes nothing.
 use Rattle.std.specs.Prelude.{ℕ, ◌≤◌, ◌<◌, ◌≡◌, refl, Bool, true, false, not, cond, ◌&&◌, ◌||◌, List, [], ◌∷◌, eqb, leb, ltb, length, get_or}
-use Rattle.std.proofs.Common.{arith, sym, ap, ◌∙◌, subst, ltb-true, eqb-true, eq-eqb}
+use Rattle.std.proofs.Common.{arith, sym, ap, ◌∙◌, ltb-true, eqb-true, eq-eqb}
 use Rattle.std.proofs.lemmas.Bool.{false≢true}
 use Rattle.std.proofs.Math.Bool.{or-true}
 use Rattle.std.proofs.Math.Option.{Option, none, some}
@@ -10,10 +10,9 @@ use Rattle.meaning.specs.Walks.{shells_of, face_walk, edge_walk}
 use Rattle.meaning.specs.Inquire.{rim}
 use Rattle.meaning.specs.Formed.{bit}
 use Rattle.meaning_list_laws.specs.Tests.{and_both, bit-true}
-use Rattle.meaning_list_laws.specs.Lists.{count_none, count-present, count-absent, member-counted, member-none, member-one, member-nth, member-firsts, all-member}
+use Rattle.meaning_list_laws.specs.Lists.{count-present, count-absent, member-counted, member-none, member-one, member-nth, member-firsts, all-member}
 use Rattle.meaning_split_laws.specs.Walked.{faces-there}
 use Rattle.meaning_isolation.specs.Laws.{joined-from, joined_in}
-use Rattle.meaning_shift.specs.Sums.{count-joined}
 use Rattle.meaning_shift.specs.Moving.{Movable, one_of, outside}
 use Rattle.meaning_shift.specs.Met.{fin-edge-walked}
 
@@ -29,11 +28,11 @@ body_fins m b = joined (region_fins m) (body m b).regions
 
 -- ---- small facts
 
-bit-small : (t : Bool) → bit t ≤ 1
+pub bit-small : (t : Bool) → bit t ≤ 1
 bit-small true = omega arith
 bit-small false = omega arith
 
-bit-cond : (t : Bool) → bit t ≡ cond t 1 0
+pub bit-cond : (t : Bool) → bit t ≡ cond t 1 0
 bit-cond true = refl
 bit-cond false = refl
 
@@ -46,7 +45,7 @@ only-entry y [] n h = absurd (omega arith)
 only-entry y (z ∷ []) n h = sym (eqb-true y z (sym (member-one y z) ∙ h))
 only-entry y (z ∷ u ∷ l) n h = absurd (omega arith)
 
-one-of : (o : Option ℕ) (l : List ℕ) → one_of o l ≡ true → (s : ℕ) × (o ≡ some s) × (member s l ≡ true)
+pub one-of : (o : Option ℕ) (l : List ℕ) → one_of o l ≡ true → (s : ℕ) × (o ≡ some s) × (member s l ≡ true)
 one-of none l h = absurd (false≢true h)
 one-of (some s) l h = (s, refl, h)
 
@@ -61,10 +60,10 @@ not-front m (some u) s h g = by (eqb u s) refl
 
 module _ (x : Limits) (m : Model) (b r : ℕ) (k : Movable x m b r) where
   -- the face that a fin belongs to
-  abbrev parent : ℕ → ℕ
+  abbrev pub parent : ℕ → ℕ
   parent i = (loop m (fin m i).owner).face
 
-  abbrev Walked : ℕ → Type 0
+  abbrev pub Walked : ℕ → Type 0
   Walked f = member f (face_walk m b) ≡ true
 
   pub face-walked : (q s f : ℕ) → member q (body m b).regions ≡ true → member s (region m q).shells ≡ true → member f (shell m s).faces ≡ true → Walked f
@@ -73,13 +72,13 @@ module _ (x : Limits) (m : Model) (b r : ℕ) (k : Movable x m b r) where
       member-firsts f (joined (λ s. (shell m s).faces) (shells_of m b))
       ∙ joined_in (λ s. (shell m s).faces) (shells_of m b) s f (joined_in (λ r. (region m r).shells) (body m b).regions q s a c) d
 
-  face-below : (f : ℕ) → Walked f → f < m.faces.used
+  pub face-below : (f : ℕ) → Walked f → f < m.faces.used
   face-below f h = ltb-true f m.faces.used (all-member (λ f. ltb f m.faces.used) (face_walk m b) f (faces-there x m k.formed b k.there) h)
 
   pub region-below : (q : ℕ) → member q (body m b).regions ≡ true → q < m.regions.used
   region-below q h = ltb-true q m.regions.used (all-member (has m.regions) (body m b).regions q (k.formed.ids.body-regions b k.there) h)
 
-  shell-below : (q s : ℕ) → q < m.regions.used → member s (region m q).shells ≡ true → s < m.shells.used
+  pub shell-below : (q s : ℕ) → q < m.regions.used → member s (region m q).shells ≡ true → s < m.shells.used
   shell-below q s hq h = ltb-true s m.shells.used (all-member (has m.shells) (region m q).shells s (k.formed.ids.region-shells q hq) h)
 
   pub shell-names : (q s : ℕ) → q < m.regions.used → member s (region m q).shells ≡ true → (shell m s).region ≡ q
@@ -117,14 +116,14 @@ module _ (x : Limits) (m : Model) (b r : ℕ) (k : Movable x m b r) where
     rim-count : (i : ℕ) → i < m.fins.used → count i (rim m f) ≡ bit (eqb (fin m i).owner (get_or (face m f).loops 0 0))
     rim-count i hi = k.formed.fins.once (get_or (face m f).loops 0 0) i loop-below hi
 
-    parent_is : (i : ℕ) → member i (rim m f) ≡ true → parent i ≡ f
+    pub parent_is : (i : ℕ) → member i (rim m f) ≡ true → parent i ≡ f
     parent_is i g =
         ap (λ (l : ℕ). (loop m l).face)
         (eqb-true (fin m i).owner (get_or (face m f).loops 0 0)
         (bit-true (eqb (fin m i).owner (get_or (face m f).loops 0 0)) (omega (arith, count-present i (rim m f) g, rim-count i (fin-below i g)))))
         ∙ loop-names
 
-    count-rim : (i : ℕ) → count i (rim m f) ≤ cond (eqb (parent i) f) 1 0
+    pub count-rim : (i : ℕ) → count i (rim m f) ≤ cond (eqb (parent i) f) 1 0
     count-rim i = by (member i (rim m f)) refl
       where
         by : (t : Bool) → member i (rim m f) ≡ t → count i (rim m f) ≤ cond (eqb (parent i) f) 1 0
@@ -167,50 +166,3 @@ module _ (x : Limits) (m : Model) (b r : ℕ) (k : Movable x m b r) where
       let s = joined-from (shell_fins m) (region m q.0).shells i (if-open i (region m q.0).solid (joined (shell_fins m) (region m q.0).shells) q.2) in
       let f = joined-from (rim m) (shell m s.0).faces i s.2 in
       (f.0, face-walked q.0 s.0 f.0 q.1 s.1 f.1, f.2)
-
-  -- ---- each stands there once
-
-  module _ (c f s₀ : ℕ) (h : Walked f) (p : parent c ≡ f) (e : (face m f).back ≡ some s₀) (g : member s₀ (region m r).shells ≡ true) where
-    shell-once : (q s : ℕ) → member q (body m b).regions ≡ true → (region m q).solid ≡ true → member s (region m q).shells ≡ true → count c (shell_fins m s) ≤ cond (eqb s₀ s) 1 0
-    shell-once q s a t d =
-        let hq : q < m.regions.used = region-below q a in
-        let own : (region m (shell m s).region).solid ≡ true = ap (λ (z : ℕ). (region m z).solid) (shell-names q s hq d) ∙ t in
-        let front : is (face m f).front s ≡ false = not-front m (face m f).front s (all-member (λ f. outside m (face m f).front) (face_walk m b) f k.fronts h) own in
-        let counted : count f (shell m s).faces ≡ cond (eqb s₀ s) 1 0 =
-        k.formed.faces.once s f (shell-below q s hq d) (face-below f h)
-        ∙ ap bit (ap (λ (z : Bool). z || is (face m f).back s) front ∙ ap (λ (o : Option ℕ). is o s) e)
-        ∙ bit-cond (eqb s₀ s) in
-        omega (arith, count-joined (rim m) c f (shell m s).faces (λ y u. subst (λ (z : ℕ). count c (rim m y) ≤ cond (eqb z y) 1 0) p (count-rim y (face-walked q s y a d u) c)))
-
-    region-once : (q : ℕ) → member q (body m b).regions ≡ true → count c (region_fins m q) ≤ cond (eqb (shell m s₀).region q) 1 0
-    region-once q a = by (region m q).solid refl
-      where
-        by : (t : Bool) → (region m q).solid ≡ t → count c (cond t (joined (shell_fins m) (region m q).shells) []) ≤ cond (eqb (shell m s₀).region q) 1 0
-        by true t =
-            omega (
-              arith,
-              count-joined (shell_fins m) c s₀ (region m q).shells (λ s d. shell-once q s a t d),
-              k.formed.shells.once q s₀ (region-below q a) (shell-below r s₀ (region-below r k.own) g),
-              bit-cond (eqb (shell m s₀).region q),
-            )
-        by false t = omega (arith, count_none c)
-
-    body-once : count c (body_fins m b) ≤ 1
-    body-once =
-        let hs : s₀ < m.shells.used = shell-below r s₀ (region-below r k.own) g in
-        omega (
-          arith,
-          count-joined (region_fins m) c (shell m s₀).region (body m b).regions region-once,
-          k.formed.regions.once b (shell m s₀).region k.there (k.formed.ids.shell-region s₀ hs),
-          bit-small (eqb (region m (shell m s₀).region).body b),
-        )
-
-  pub fins-once : (c : ℕ) → count c (body_fins m b) ≤ 1
-  fins-once c = by (member c (body_fins m b)) refl
-    where
-      by : (t : Bool) → member c (body_fins m b) ≡ t → count c (body_fins m b) ≤ 1
-      by false n = omega (arith, count-absent c (body_fins m b) n)
-      by true i =
-          let f = fin-from c i in
-          let back = one-of (face m f.0).back (region m r).shells (all-member (λ f. one_of (face m f).back (region m r).shells) (face_walk m b) f.0 k.backs f.1) in
-          body-once c f.0 back.0 f.1 (parent_is f.0 f.1 c f.2) back.1 back.2

@@ -7,16 +7,12 @@ use Rattle.std.specs.Float.Ieee.Fits.{down_pos}
 use Rattle.float_grid.specs.Grid.{on_grid, signed, sixteenths}
 use Rattle.float_vectors.specs.declared.vector.Point3.{Point3}
 use Rattle.float_vectors.specs.Space.{◌+ᶠ◌}
-use Rattle.meaning.specs.Lists.{all}
-use Rattle.meaning.specs.Model.{Model, point_of}
-use Rattle.meaning.specs.Walks.{vertex_walk}
 use Rattle.meaning_list_laws.specs.Tests.{and_both}
-use Rattle.meaning_list_laws.specs.Lists.{all-member}
 use Rattle.meaning_sheets.specs.Sheets.{corner, grid_point}
 use Rattle.meaning_sheet_laws.specs.Sizes.{size-sum, sixteenths-size}
 use Rattle.meaning_sheet_floats.specs.Exactly.{Exactly, add-exactly, grid-exactly}
 use Rattle.meaning_shift.specs.Corners.{plus_c, same-corner}
-use Rattle.meaning_shift.specs.Moving.{Shifted, moved}
+use Rattle.meaning_shift.specs.Moving.{moved}
 
 -- a float is one number of sixteenths alone
 one_number : (x : Float) (d : ℕ) (y z : ℤ) → Exactly x d y → Exactly x d z → y ≡ z
@@ -44,19 +40,10 @@ on-grid p h =
     let first = and_both (on_grid p.x) (on_grid p.y) last.0 in
     record { x = first.0; y = first.1; z = last.1 }
 
-corner-moved : (d p : Point3) → grid_point d ≡ true → grid_point p ≡ true → grid_point (moved d p) ≡ true → corner (moved d p) ≡ plus_c (corner p) (corner d)
+pub corner-moved : (d p : Point3) → grid_point d ≡ true → grid_point p ≡ true → grid_point (moved d p) ≡ true → corner (moved d p) ≡ plus_c (corner p) (corner d)
 unfolding corner plus_c
 corner-moved d p g h k =
     let v = on-grid d g in
     let u = on-grid p h in
     let w = on-grid (moved d p) k in
     same-corner (sum-on-grid p.x d.x u.x v.x w.x) (sum-on-grid p.y d.y u.y v.y w.y) (sum-on-grid p.z d.z u.z v.z w.z)
-
-pub float-shift : (m : Model) (b : ℕ) (d : Point3) → grid_point d ≡ true → all (λ v. grid_point (point_of m v)) (vertex_walk m b) ≡ true
-    → all (λ v. grid_point (moved d (point_of m v))) (vertex_walk m b) ≡ true → Shifted m b (corner d) (λ v. moved d (point_of m v))
-float-shift m b d g before after =
-    record {
-      before = before;
-      by = λ v h. corner-moved d (point_of m v) g (all-member (λ v. grid_point (point_of m v)) (vertex_walk m b) v before h) (all-member (λ v. grid_point (moved d (point_of m v))) (vertex_walk m b) v after h);
-      after = after;
-    }

@@ -8,5 +8,4 @@ pub mod Exchange
 pub mod Sides
 pub mod Grid
 pub mod Splits
-pub mod Statements
 pub mod Evaluated

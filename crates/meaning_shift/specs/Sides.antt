@@ -1,39 +1,38 @@
 -- A movable body's sides, moved: each gains what its fins add, and the body gains what all of them add, which is nothing. Assumes nothing.
-use Rattle.std.specs.Prelude.{ℕ, ◌+◌, ◌-◌, ◌≡◌, Bool, false, not, ◌&&◌, eqb, length, get_or, ℤ, ◌+ℤ◌}
+use Rattle.std.specs.Prelude.{ℕ, ◌+◌, ◌-◌, ◌≡◌, Bool, false, not, ◌&&◌, eqb, length, ℤ, ◌+ℤ◌}
 use Rattle.std.proofs.Common.{arith, ◌∙◌}
 use Rattle.std.proofs.Math.Path.{refl, sym, ap, ap₂}
 use Rattle.std.proofs.Math.Bool.{true, cond}
 use mathlib.Core.List.{List, [], ◌∷◌, ◌++◌, map}
 use Rattle.std.proofs.Math.Option.{Option}
-use Rattle.std.proofs.Math.Dec.{ltb}
 use Rattle.std.proofs.Math.IntN.{+ℤ_idl, +ℤ_idr, +ℤ_assoc}
 use Rattle.float_values.specs.Laws.Integers.{sum-parts, same_parts}
 use Rattle.float_vectors.specs.declared.vector.Point3.{Point3}
-use Rattle.geom_lines_planes.specs.Refuse.{◌unless◌, ◌then◌}
+use Rattle.geom_lines_planes.specs.Refuse.{◌then◌}
 use Rattle.meaning.specs.Refuse.{◌if◌}
 use Rattle.meaning.specs.Lists.{member, joined, listed, the, is_some, is}
-use Rattle.meaning.specs.Model.{Model, Limits, Edge, Sense, positive, negative, changed, body, region, shell, face, fin, edge, point_of}
+use Rattle.meaning.specs.Model.{Model, Limits, Edge, Sense, positive, negative, changed, body, shell, face, fin, edge, point_of}
 use Rattle.meaning.specs.Walks.{face_walk, faces_refusal, edge_walk, edges_refusal, vertex_walk, edge_vertices, directed, ends_of}
 use Rattle.meaning.specs.Faults.{meets_next}
-use Rattle.meaning.specs.Inquire.{flat_face, straight_edge, require_polyhedral, Side, sides_of, solid_sides, rim, start_of, side_refusal, sides_refusal, volume_refusal}
+use Rattle.meaning.specs.Inquire.{flat_face, straight_edge, require_polyhedral, Side, solid_sides, rim, start_of, side_refusal, sides_refusal, volume_refusal}
 use Rattle.meaning.specs.Formed.{closed, loop_closes}
 use Rattle.meaning_list_laws.specs.Tests.{and_both, same_true}
 use Rattle.meaning_list_laws.specs.Lists.{member-head, member-tail, all-member}
 use Rattle.meaning_isolation.specs.Laws.{in-front, behind, the-listed}
-use Rattle.meaning_sheets.specs.Sheets.{Corner, corner, whole_polygon, side_points, whole_side, whole_sum, six_volume, grid_point, grid_points, grid_sides, triangles, stone_refusal}
-use Rattle.meaning_shift.specs.Corners.{plus_c, lever, chain, around, polygon-moved}
+use Rattle.meaning_sheets.specs.Sheets.{Corner, corner, side_points, whole_side, whole_sum, grid_point, grid_points, grid_sides, triangles}
+use Rattle.meaning_shift.specs.Corners.{plus_c, lever, chain, around}
 use Rattle.meaning_shift.specs.Sums.{sum_over, sum-append}
-use Rattle.meaning_shift.specs.Moving.{Movable, outside, placed, Shifted}
+use Rattle.meaning_shift.specs.Moving.{Movable, placed, Shifted}
 use Rattle.meaning_shift.specs.Met.{end-walked}
-use Rattle.meaning_shift.specs.Fins.{shell_fins, region_fins, body_fins, not-front, region-below, shell-names, face-walked, loop-below, edge-walked}
-use Rattle.meaning_shift.specs.Exchange.{start_corner, end_corner, fin_lever, fins-add-nothing}
+use Rattle.meaning_shift.specs.Fins.{edge-walked}
+use Rattle.meaning_shift.specs.Exchange.{start_corner, end_corner, fin_lever}
 
 both_true : (a b : Bool) → a ≡ true → b ≡ true → (a && b) ≡ true
 both_true a b p q = rw (p, q)
 
 -- ---- once around a loop that closes
 
-abbrev start_point : Model → ℕ → Point3
+abbrev pub start_point : Model → ℕ → Point3
 start_point m i = point_of m (the (start_of m i))
 
 module _ (m : Model) (t : Corner) where
@@ -49,20 +48,20 @@ module _ (m : Model) (t : Corner) where
       let both = and_both (meets_next m i n) (closed m (n ∷ k) (k ++ (j ∷ []))) h in
       ap₂ (λ (y : ℤ) (z : ℤ). y +ℤ z) (ap (lever t (start_corner m i)) (next-corner i n both.0)) (chain-sum j n k both.1)
 
-  around-sum : (l : List ℕ) → loop_closes m l ≡ true → around t (map corner (map (start_point m) l)) ≡ sum_over (fin_lever m t) l
+  pub around-sum : (l : List ℕ) → loop_closes m l ≡ true → around t (map corner (map (start_point m) l)) ≡ sum_over (fin_lever m t) l
   unfolding loop_closes around sum_over
   around-sum [] h = refl
   around-sum (i ∷ k) h = chain-sum i i k (and_both (not (eqb (length (i ∷ k)) 0)) (closed m (i ∷ k) (k ++ (i ∷ []))) h).1
 
 -- ---- a list of points, moved
 
-points-moved : (t : Corner) (g h : ℕ → Point3) (l : List ℕ) → ((i : ℕ) → member i l ≡ true → corner (h i) ≡ plus_c (corner (g i)) t)
+pub points-moved : (t : Corner) (g h : ℕ → Point3) (l : List ℕ) → ((i : ℕ) → member i l ≡ true → corner (h i) ≡ plus_c (corner (g i)) t)
     → map corner (map h l) ≡ map (λ c. plus_c c t) (map corner (map g l))
 points-moved t g h [] e = refl
 points-moved t g h (i ∷ l) e =
     ap₂ (λ (c : Corner) (k : List Corner). c ∷ k) (e i (member-head i l)) (points-moved t g h l (λ j q. e j (member-tail j i l q)))
 
-points-on-grid : (g : ℕ → Point3) (l : List ℕ) → ((i : ℕ) → member i l ≡ true → grid_point (g i) ≡ true) → grid_points (map g l) ≡ true
+pub points-on-grid : (g : ℕ → Point3) (l : List ℕ) → ((i : ℕ) → member i l ≡ true → grid_point (g i) ≡ true) → grid_points (map g l) ≡ true
 unfolding grid_points
 points-on-grid g [] e = refl
 points-on-grid g (i ∷ l) e = both_true (grid_point (g i)) (grid_points (map g l)) (e i (member-head i l)) (points-on-grid g l (λ j q. e j (member-tail j i l q)))
@@ -80,15 +79,15 @@ gather a b c d =
     (omega (arith, sum-parts a b, sum-parts c d, sum-parts (a +ℤ b) (c +ℤ d), sum-parts a c, sum-parts b d, sum-parts (a +ℤ c) (b +ℤ d)))
 
 -- the side s, on the grid in both models, has gained from m to n what the fins k add; and so the sides l
-record SideGains (m n : Model) (t : Corner) (s : Side) (k : List ℕ) : Type 0 where
-  sum : whole_side n s ≡ whole_side m s +ℤ sum_over (fin_lever m t) k
-  before : grid_points (side_points m s) ≡ true
-  after : grid_points (side_points n s) ≡ true
+pub record SideGains (m n : Model) (t : Corner) (s : Side) (k : List ℕ) : Type 0 where
+  pub sum : whole_side n s ≡ whole_side m s +ℤ sum_over (fin_lever m t) k
+  pub before : grid_points (side_points m s) ≡ true
+  pub after : grid_points (side_points n s) ≡ true
 
-record Gains (m n : Model) (t : Corner) (l : List Side) (k : List ℕ) : Type 0 where
-  sum : whole_sum n l ≡ whole_sum m l +ℤ sum_over (fin_lever m t) k
-  before : grid_sides m l ≡ true
-  after : grid_sides n l ≡ true
+pub record Gains (m n : Model) (t : Corner) (l : List Side) (k : List ℕ) : Type 0 where
+  pub sum : whole_sum n l ≡ whole_sum m l +ℤ sum_over (fin_lever m t) k
+  pub before : grid_sides m l ≡ true
+  pub after : grid_sides n l ≡ true
 
 module _ (m n : Model) (t : Corner) where
   sum-sides : (p : Model) (k l : List Side) → whole_sum p (k ++ l) ≡ whole_sum p k +ℤ whole_sum p l
@@ -119,12 +118,12 @@ module _ (m n : Model) (t : Corner) where
         after = grid-sides n k l g.after h.after;
       }
 
-  gains-joined : (g : ℕ → List Side) (h : ℕ → List ℕ) (l : List ℕ) → ((y : ℕ) → member y l ≡ true → Gains m n t (g y) (h y)) → Gains m n t (joined g l) (joined h l)
+  pub gains-joined : (g : ℕ → List Side) (h : ℕ → List ℕ) (l : List ℕ) → ((y : ℕ) → member y l ≡ true → Gains m n t (g y) (h y)) → Gains m n t (joined g l) (joined h l)
   unfolding joined
   gains-joined g h [] e = gains-none
   gains-joined g h (y ∷ l) e = gains-both (g y) (joined g l) (h y) (joined h l) (e y (member-head y l)) (gains-joined g h l (λ z q. e z (member-tail z y l q)))
 
-  gains-if : (b : Bool) (l : List Side) (k : List ℕ) → (b ≡ true → Gains m n t l k) → Gains m n t (cond b l []) (cond b k [])
+  pub gains-if : (b : Bool) (l : List Side) (k : List ℕ) → (b ≡ true → Gains m n t l k) → Gains m n t (cond b l []) (cond b k [])
   gains-if true l k h = h refl
   gains-if false l k h = gains-none
 
@@ -137,7 +136,7 @@ module _ (m n : Model) (t : Corner) where
         after = both_true (grid_points (side_points n s)) true e.after refl;
       }
 
-  gains-listed : (s : ℕ) (l : List ℕ) → ((f : ℕ) → member f l ≡ true → SideGains m n t (record { shell = s; face = f }) (rim m f))
+  pub gains-listed : (s : ℕ) (l : List ℕ) → ((f : ℕ) → member f l ≡ true → SideGains m n t (record { shell = s; face = f }) (rim m f))
       → Gains m n t (map (λ f. record { shell = s; face = f }) l) (joined (rim m) l)
   unfolding joined
   gains-listed s [] e = gains-none
@@ -148,62 +147,19 @@ module _ (m n : Model) (t : Corner) where
 -- ---- of a movable body
 
 module _ (x : Limits) (m : Model) (b r : ℕ) (k : Movable x m b r) (t : Corner) (point : ℕ → Point3) (d : Shifted m b t point) where
-  start-walked : (f i : ℕ) → member f (face_walk m b) ≡ true → member i (rim m f) ≡ true → member (the (start_of m i)) (vertex_walk m b) ≡ true
+  pub start-walked : (f i : ℕ) → member f (face_walk m b) ≡ true → member i (rim m f) ≡ true → member (the (start_of m i)) (vertex_walk m b) ≡ true
   start-walked f i h g =
       let e = edge-walked x m b r k f h i g in
       let ends = and_both (is_some (edge m (fin m i).edge).start) (is_some (edge m (fin m i).edge).end) (all-member (λ e. is_some (edge m e).start && is_some (edge m e).end) (edge_walk m b) (fin m i).edge k.ends e) in
       end-walked m b (fin m i).edge (the (start_of m i)) e (start-vertex (fin m i).sense (edge m (fin m i).edge) ends.0 ends.1)
 
-  point-moved : (v : ℕ) → member v (vertex_walk m b) ≡ true → corner (point_of (placed m b point) v) ≡ plus_c (corner (point_of m v)) t
+  pub point-moved : (v : ℕ) → member v (vertex_walk m b) ≡ true → corner (point_of (placed m b point) v) ≡ plus_c (corner (point_of m v)) t
   unfolding placed changed
   point-moved v h = ap (λ (c : Bool). corner (cond c (point v) (point_of m v))) h ∙ d.by v h
 
-  corners-moved : (f : ℕ) → member f (face_walk m b) ≡ true
-      → whole_polygon (map corner (map (start_point (placed m b point)) (rim m f))) ≡ whole_polygon (map corner (map (start_point m) (rim m f))) +ℤ sum_over (fin_lever m t) (rim m f)
-  unfolding placed
-  corners-moved f h =
-      ap whole_polygon (points-moved t (start_point m) (start_point (placed m b point)) (rim m f) (λ i g. point-moved (the (start_of m i)) (start-walked f i h g)))
-      ∙ polygon-moved t (map corner (map (start_point m) (rim m f)))
-      ∙ ap (λ (z : ℤ). whole_polygon (map corner (map (start_point m) (rim m f))) +ℤ z)
-      (around-sum m t (rim m f) (k.formed.closes (get_or (face m f).loops 0 0) (loop-below x m b r k f h)))
-
-  point-on-grid : (v : ℕ) → member v (vertex_walk m b) ≡ true → grid_point (point_of (placed m b point) v) ≡ true
+  pub point-on-grid : (v : ℕ) → member v (vertex_walk m b) ≡ true → grid_point (point_of (placed m b point) v) ≡ true
   unfolding placed changed
   point-on-grid v h = ap (λ (c : Bool). grid_point (cond c (point v) (point_of m v))) h ∙ all-member (λ v. grid_point (point v)) (vertex_walk m b) v d.after h
-
-  -- a side of the solid region looks out of it: its points are not reversed
-  side-moved : (s f : ℕ) → member f (face_walk m b) ≡ true → is (face m f).front s ≡ false → SideGains m (placed m b point) t (record { shell = s; face = f }) (rim m f)
-  unfolding whole_side side_points placed
-  side-moved s f h g =
-      record {
-        sum = rw g (corners-moved f h);
-        before = rw g (points-on-grid (start_point m) (rim m f) (λ i q. all-member (λ v. grid_point (point_of m v)) (vertex_walk m b) (the (start_of m i)) d.before (start-walked f i h q)));
-        after = rw g (points-on-grid (start_point (placed m b point)) (rim m f) (λ i q. point-on-grid (the (start_of m i)) (start-walked f i h q)));
-      }
-
-  sides-moved : Gains m (placed m b point) t (solid_sides m b) (body_fins m b)
-  unfolding solid_sides
-  sides-moved =
-      gains-joined m n t (λ q. cond (region m q).solid (joined (sides_of m) (region m q).shells) []) (region_fins m) (body m b).regions
-      (λ q a. gains-if m n t (region m q).solid (joined (sides_of m) (region m q).shells) (joined (shell_fins m) (region m q).shells)
-      (λ e. gains-joined m n t (sides_of m) (shell_fins m) (region m q).shells
-      (λ s c. gains-listed m n t s (shell m s).faces
-      (λ f g. side-moved s f (face-walked x m b r k q s f a c g) (front q s f a e c (face-walked x m b r k q s f a c g))))))
-    where
-      n : Model
-      n = placed m b point
-
-      front : (q s f : ℕ) → member q (body m b).regions ≡ true → (region m q).solid ≡ true → member s (region m q).shells ≡ true → member f (face_walk m b) ≡ true → is (face m f).front s ≡ false
-      front q s f a e c h =
-          not-front m (face m f).front s (all-member (λ f. outside m (face m f).front) (face_walk m b) f k.fronts h)
-          (ap (λ (z : ℕ). (region m z).solid) (shell-names x m b r k q s (region-below x m b r k q a) c) ∙ e)
-
-  pub volume-kept : six_volume (placed m b point) b ≡ six_volume m b
-  unfolding placed solid_sides
-  volume-kept =
-      sides-moved.sum
-      ∙ ap (λ (z : ℤ). whole_sum m (solid_sides m b) +ℤ z) (fins-add-nothing x m b r k t)
-      ∙ +ℤ_idr (whole_sum m (solid_sides m b))
 
   -- ---- what is refused
 
@@ -212,17 +168,11 @@ module _ (x : Limits) (m : Model) (b r : ℕ) (k : Movable x m b r) (t : Corner)
   sides-refused [] = refl
   sides-refused (s ∷ l) = ap (λ (n : ℕ). side_refusal m s then n) (sides-refused l)
 
-  same-triangles : (l : List Side) → triangles (placed m b point) l ≡ triangles m l
+  pub same-triangles : (l : List Side) → triangles (placed m b point) l ≡ triangles m l
   unfolding triangles placed
   same-triangles [] = refl
   same-triangles (s ∷ l) = ap (λ (n : ℕ). (length (rim m s.face) - 2) + n) (same-triangles l)
 
-  volume-refused : volume_refusal (placed m b point) b ≡ volume_refusal m b
+  pub volume-refused : volume_refusal (placed m b point) b ≡ volume_refusal m b
   unfolding volume_refusal require_polyhedral flat_face straight_edge faces_refusal edges_refusal face_walk edge_walk solid_sides placed
   volume-refused = rw (sides-refused (solid_sides m b))
-
-  pub refusal-kept : stone_refusal (placed m b point) b ≡ stone_refusal m b
-  unfolding stone_refusal solid_sides placed
-  refusal-kept =
-      ap₂ (λ (n : ℕ) (k : ℕ). n then k) volume-refused
-      (ap₂ (λ (t : Bool) (n : ℕ). 5 unless t then 8 if ltb 4096 n) (sides-moved.after ∙ sym sides-moved.before) (same-triangles (solid_sides m b)))

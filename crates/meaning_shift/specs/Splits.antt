@@ -1,5 +1,5 @@
 -- A split keeps a movable body movable, clause by clause, and so does any sequence of splits, refused or not. Assumes nothing.
-use Rattle.std.specs.Prelude.{ℕ, zero, suc, ◌+◌, ◌-◌, ◌≤◌, ◌<◌, ◌≡◌, Bool, true, false, cond, ◌&&◌, Float, get_or}
+use Rattle.std.specs.Prelude.{ℕ, suc, ◌+◌, ◌-◌, ◌≤◌, ◌<◌, ◌≡◌, Bool, true, false, cond, ◌&&◌, Float, get_or}
 use Rattle.std.proofs.Common.{le_trans, arith, sym, ap, ◌∙◌, ltb-true, ltb-false, leb-true, le-leb, eqb-true}
 use Rattle.std.proofs.Math.Path.{refl, subst}
 use mathlib.Core.List.{List, [], ◌∷◌}
@@ -8,19 +8,18 @@ use Rattle.std.proofs.Math.Dec.{eqb, leb, ltb}
 use Rattle.std.proofs.Math.ListN.{length}
 use Rattle.std.proofs.lemmas.Bool.{eqb-false}
 use Rattle.meaning.specs.Lists.{run, all, member, count, is_some}
-use Rattle.meaning.specs.Model.{Model, Limits, Fin, Edge, has, changed, face, loop, fin, edge}
+use Rattle.meaning.specs.Model.{Model, Limits, Edge, changed, face, loop, fin, edge}
 use Rattle.meaning.specs.Walks.{face_walk, edge_walk}
 use Rattle.meaning.specs.Inquire.{rim}
-use Rattle.meaning.specs.Split.{split_refusal, first_half, second_half, after_split, where_accepted, model_after, Cut, after_all}
+use Rattle.meaning.specs.Split.{split_refusal, first_half, second_half, after_split}
 use Rattle.meaning_list_laws.specs.Tests.{and_both, bit-true}
-use Rattle.meaning_list_laws.specs.Lists.{count-present, count-run-before, count-run-after, member-counted, member-nth, all-member, all-counted}
+use Rattle.meaning_list_laws.specs.Lists.{count-present, count-run-before, count-run-after, member-counted, all-member, all-counted}
 use Rattle.meaning_split_laws.specs.Terms.{sifted}
-use Rattle.meaning_split_laws.specs.After.{fin-was, fin-fresh, edge-first, edge_other, edge_fresh, edge-was-fins, accepted}
-use Rattle.meaning_split_laws.specs.Kept.{well-formed-kept}
-use Rattle.meaning_split_laws.specs.Struck.{restored-split, restored-whole}
+use Rattle.meaning_split_laws.specs.After.{edge-first, edge_other, edge_fresh, accepted}
+use Rattle.meaning_split_laws.specs.Struck.{restored-whole}
+use Rattle.meaning_split_laws.proofs.Struck.{restored-split}
 use Rattle.meaning_split_laws.specs.Gained.{edge-walk-after, edge-walk-old, walked-below}
-use Rattle.meaning_split_laws.specs.Report.{report-kept}
-use Rattle.meaning_shift.specs.Moving.{Movable, outside, one_loop_each, backs_within, fronts_outside, fins_own, ends_there}
+use Rattle.meaning_shift.specs.Moving.{Movable, outside, one_loop_each, backs_within, fronts_outside, ends_there}
 use Rattle.meaning_shift.specs.Fins.{loop-below}
 
 -- ---- small facts
@@ -38,7 +37,7 @@ struck-shorter p (y ∷ l) = by (p y) (struck-shorter p l)
     by false h = omega arith
 
 -- an entry of u, u + 1, .. is one of them
-run-from : (u n : ℕ) (i : ℕ) → member i (run u n) ≡ true → (u ≤ i) × (i < u + n)
+pub run-from : (u n : ℕ) (i : ℕ) → member i (run u n) ≡ true → (u ≤ i) × (i < u + n)
 run-from u n i h =
     let in-it : 1 ≤ count i (run u n) = count-present i (run u n) h in
     (low (ltb i u) refl in-it, high (ltb i (u + n)) refl in-it)
@@ -54,10 +53,10 @@ run-from u n i h =
 -- ---- behind an accepted split
 
 module _ (x : Limits) (m : Model) (b r : ℕ) (k : Movable x m b r) (e : ℕ) (t : Float) (h : split_refusal x m e t ≡ 0) where
-  abbrev n : Model
+  abbrev pub n : Model
   n = after_split m e t
 
-  he : e < m.edges.used
+  pub he : e < m.edges.used
   he = (accepted x m e t h).0
 
   -- a loop loses no fin
@@ -68,7 +67,7 @@ module _ (x : Limits) (m : Model) (b r : ℕ) (k : Movable x m b r) (e : ℕ) (t
       ((restored-whole m n (e ∷ []) k.formed.ids (restored-split m e t he)).loop-fins (get_or (face m f).loops 0 0) (loop-below x m b r k f q))
       (struck-shorter (λ i. ltb i m.fins.used) (rim n f))
 
-  loops-kept : one_loop_each n b ≡ true
+  pub loops-kept : one_loop_each n b ≡ true
   unfolding after_split face_walk changed
   loops-kept =
       all_in (λ f. eqb (length (face m f).loops) 1 && leb 3 (length (rim n f))) (face_walk m b)
@@ -81,13 +80,13 @@ module _ (x : Limits) (m : Model) (b r : ℕ) (k : Movable x m b r) (e : ℕ) (t
   outside_kept none = refl
   outside_kept (some s) = refl
 
-  fronts-kept : fronts_outside n b ≡ true
+  pub fronts-kept : fronts_outside n b ≡ true
   unfolding after_split face_walk changed
   fronts-kept =
       all_in (λ f. outside n (face m f).front) (face_walk m b)
       (λ f q. outside_kept (face m f).front ∙ all-member (λ f. outside m (face m f).front) (face_walk m b) f k.fronts q)
 
-  backs-kept : backs_within n b r ≡ true
+  pub backs-kept : backs_within n b r ≡ true
   unfolding after_split face_walk changed
   backs-kept = k.backs
 
@@ -99,7 +98,7 @@ module _ (x : Limits) (m : Model) (b r : ℕ) (k : Movable x m b r) (e : ℕ) (t
       bit-true (member e (edge_walk m b)) (rw (edge-walk-after x m k.formed e t he b k.there).once at once)
 
   -- what holds of each old edge that is walked, and of the new one where e is
-  each-edge : (P : ℕ → Bool) → ((p : ℕ) → member p (edge_walk m b) ≡ true → p < m.edges.used → P p ≡ true) → (member e (edge_walk m b) ≡ true → P m.edges.used ≡ true) → all P (edge_walk n b) ≡ true
+  pub each-edge : (P : ℕ → Bool) → ((p : ℕ) → member p (edge_walk m b) ≡ true → p < m.edges.used → P p ≡ true) → (member e (edge_walk m b) ≡ true → P m.edges.used ≡ true) → all P (edge_walk n b) ≡ true
   each-edge P old new = all_in P (edge_walk n b) (λ p q. by p q (eqb p m.edges.used) refl)
     where
       by : (p : ℕ) → member p (edge_walk n b) ≡ true → (c : Bool) → eqb p m.edges.used ≡ c → P p ≡ true
@@ -111,39 +110,22 @@ module _ (x : Limits) (m : Model) (b r : ℕ) (k : Movable x m b r) (e : ℕ) (t
           old p there (walked-below x m k.formed e t he b k.there p there)
 
   -- a loop stays its face's
-  abbrev own_fin : Model → ℕ → Bool
+  abbrev pub own_fin : Model → ℕ → Bool
   own_fin a i = member (loop a (fin a i).owner).face (face_walk a b)
 
-  own-was : (p : ℕ) → member p (edge_walk m b) ≡ true → (i : ℕ) → member i (edge m p).fins ≡ true → own_fin m i ≡ true
+  pub own-was : (p : ℕ) → member p (edge_walk m b) ≡ true → (i : ℕ) → member i (edge m p).fins ≡ true → own_fin m i ≡ true
   own-was p q i g = all-member (own_fin m) (edge m p).fins i (all-member (λ p. all (own_fin m) (edge m p).fins) (edge_walk m b) p k.fins q) g
 
-  owned : (i j : ℕ) → (fin n i).owner ≡ (fin m j).owner → own_fin m j ≡ true → own_fin n i ≡ true
+  pub owned : (i j : ℕ) → (fin n i).owner ≡ (fin m j).owner → own_fin m j ≡ true → own_fin n i ≡ true
   owned i j o g = faces-of (fin n i).owner ∙ ap (λ (l : ℕ). member (loop m l).face (face_walk m b)) o ∙ g
     where
       faces-of : (l : ℕ) → member (loop n l).face (face_walk n b) ≡ member (loop m l).face (face_walk m b)
       faces-of l = unfold after_split face_walk changed in refl
 
-  fins-kept : fins_own n b ≡ true
-  fins-kept = each-edge (λ p. all (own_fin n) (edge n p).fins) old new
-    where
-      old : (p : ℕ) → member p (edge_walk m b) ≡ true → p < m.edges.used → all (own_fin n) (edge n p).fins ≡ true
-      old p q below =
-          ap (all (own_fin n)) (edge-was-fins m e t p below)
-          ∙ all_in (own_fin n) (edge m p).fins
-          (λ i g. owned i i (ap (λ (a : Fin). a.owner) (fin-was m e t i (ltb-true i m.fins.used (all-member (has m.fins) (edge m p).fins i (k.formed.ids.edge-fins p below) g)))) (own-was p q i g))
-
-      new : member e (edge_walk m b) ≡ true → all (own_fin n) (edge n m.edges.used).fins ≡ true
-      new q =
-          ap (λ (a : Edge). all (own_fin n) a.fins) (edge_fresh m e t m.edges.used (omega arith))
-          ∙ all_in (own_fin n) (run m.fins.used (length (edge m e).fins))
-          (λ i g. let in-it = run-from m.fins.used (length (edge m e).fins) i g in
-          let of : ℕ = get_or (edge m e).fins (i - m.fins.used) 0 in
-          owned i of (ap (λ (a : Fin). a.owner) (fin-fresh m e t i in-it.0)) (own-was e q of (member-nth (edge m e).fins (i - m.fins.used) (omega (arith, in-it.0, in-it.1)))))
-
   abbrev ended : Edge → Bool
   ended a = is_some a.start && is_some a.end
 
-  ends-kept : ends_there n b ≡ true
+  pub ends-kept : ends_there n b ≡ true
   ends-kept = each-edge (λ p. ended (edge n p)) old new
     where
       was : (p : ℕ) → member p (edge_walk m b) ≡ true → ended (edge m p) ≡ true
@@ -164,36 +146,3 @@ module _ (x : Limits) (m : Model) (b r : ℕ) (k : Movable x m b r) (e : ℕ) (t
 
       new : member e (edge_walk m b) ≡ true → ended (edge n m.edges.used) ≡ true
       new q = ap ended (edge_fresh m e t m.edges.used (omega arith)) ∙ second (edge m e) (was e q)
-
-  movable-kept : Movable x n b r
-  unfolding after_split changed
-  movable-kept =
-      record {
-        formed = well-formed-kept x m k.formed e t he (accepted x m e t h).1;
-        there = k.there;
-        solid = k.solid;
-        clean = report-kept x m e t k.formed h b k.there k.clean;
-        one = k.one;
-        own = k.own;
-        filled = k.filled;
-        loops = loops-kept;
-        backs = backs-kept;
-        fronts = fronts-kept;
-        fins = fins-kept;
-        ends = ends-kept;
-      }
-
--- ---- one split, and any sequence of them
-
-pub split-keeps-movable : (x : Limits) (m : Model) (b r : ℕ) → Movable x m b r → (e : ℕ) (t : Float) → Movable x (model_after x m e t) b r
-unfolding model_after
-split-keeps-movable x m b r k e t = go (split_refusal x m e t) refl
-  where
-    go : (n : ℕ) → split_refusal x m e t ≡ n → Movable x (where_accepted n m (after_split m e t)) b r
-    go zero h = movable-kept x m b r k e t h
-    go (suc n) h = k
-
-pub splits-keep-movable : (x : Limits) (m : Model) (b r : ℕ) → Movable x m b r → (l : List Cut) → Movable x (after_all x m l) b r
-unfolding after_all
-splits-keep-movable x m b r k [] = k
-splits-keep-movable x m b r k (c ∷ l) = splits-keep-movable x (model_after x m c.edge c.fraction) b r (split-keeps-movable x m b r k c.edge c.fraction) l

@@ -9,12 +9,9 @@ use Rattle.std.specs.Float.{nan, inf, fin}
 use Rattle.std.specs.Float.Ieee.{up, down, eq}
 use Rattle.std.specs.Float.Ieee.Fits.{down_pos}
 use Rattle.float_grid.specs.Grid.{on_grid, signed, sixteenths}
-use Rattle.float_vectors.specs.declared.vector.Point3.{Point3}
 use Rattle.meaning_list_laws.specs.Tests.{and_both}
-use Rattle.meaning_sheets.specs.Sheets.{grid_point}
 use Rattle.meaning_sheet_floats.specs.Exactly.{grid-exactly}
-use Rattle.meaning_shift.specs.Grid.{on-grid}
-use Rattle.meaning_slabs.specs.Slabs.{differing, on, Spot, spot}
+use Rattle.meaning_slabs.specs.Slabs.{Spot}
 use Rattle.meaning_slab_areas.specs.Usual.{bend}
 
 -- ---- floats
@@ -71,17 +68,17 @@ pub stays-back : (p q : Spot) → Stays p q → Stays q p
 stays-back p q (inl e) = inl (sym e)
 stays-back p q (inr e) = inr (sym e)
 
-either : {A B : Type 0} (x y : Bool) → (x ≡ true → A) → (y ≡ true → B) → (x || y) ≡ true → A ⊎ B
+pub either : {A B : Type 0} (x y : Bool) → (x ≡ true → A) → (y ≡ true → B) → (x || y) ≡ true → A ⊎ B
 either true y f g h = inl (f refl)
 either false y f g h = inr (g h)
 
 -- of three coordinates one differs: of any two, one stays
-record Two (x y z : Bool) : Type 0 where
-  xy : (x || y) ≡ true
-  xz : (x || z) ≡ true
-  yz : (y || z) ≡ true
+pub record Two (x y z : Bool) : Type 0 where
+  pub xy : (x || y) ≡ true
+  pub xz : (x || z) ≡ true
+  pub yz : (y || z) ≡ true
 
-two : (x y z : Bool) → cond x 0 1 + cond y 0 1 + cond z 0 1 ≡ 1 → Two x y z
+pub two : (x y z : Bool) → cond x 0 1 + cond y 0 1 + cond z 0 1 ≡ 1 → Two x y z
 two true true z h = record { xy = refl; xz = refl; yz = refl }
 two true false true h = record { xy = refl; xz = refl; yz = refl }
 two true false false h = absurd (omega (arith, h))
@@ -92,26 +89,3 @@ two false false z h = absurd (by z h)
     by : (z : Bool) → 1 + 1 + cond z 0 1 ≡ 1 → ⊥
     by true h = omega (arith, h)
     by false h = omega (arith, h)
-
--- "differ in exactly one coordinate", across the axis a
-pub one-differs : (a : ℕ) (p q : Point3) → grid_point p ≡ true → grid_point q ≡ true → differing p q ≡ 1 → Stays (spot a p) (spot a q)
-unfolding spot on differing
-one-differs a p q g h d = by (eqb a 0) (eqb a 2) refl refl
-  where
-    T : Two (eq p.x q.x) (eq p.y q.y) (eq p.z q.z)
-    T = two (eq p.x q.x) (eq p.y q.y) (eq p.z q.z) d
-
-    x-same : eq p.x q.x ≡ true → sixteenths p.x ≡ sixteenths q.x
-    x-same = equal-sixteenths p.x q.x (on-grid p g).x (on-grid q h).x
-
-    y-same : eq p.y q.y ≡ true → sixteenths p.y ≡ sixteenths q.y
-    y-same = equal-sixteenths p.y q.y (on-grid p g).y (on-grid q h).y
-
-    z-same : eq p.z q.z ≡ true → sixteenths p.z ≡ sixteenths q.z
-    z-same = equal-sixteenths p.z q.z (on-grid p g).z (on-grid q h).z
-
-    by : (s t : Bool) → eqb a 0 ≡ s → eqb a 2 ≡ t → (sixteenths (on (cond s 1 0) p) ≡ sixteenths (on (cond s 1 0) q)) ⊎ (sixteenths (on (cond t 1 2) p) ≡ sixteenths (on (cond t 1 2) q))
-    by true true i j = absurd (omega (arith, eqb-true a 0 i, eqb-true a 2 j))
-    by true false i j = either (eq p.y q.y) (eq p.z q.z) y-same z-same T.yz
-    by false true i j = either (eq p.x q.x) (eq p.y q.y) x-same y-same T.xy
-    by false false i j = either (eq p.x q.x) (eq p.z q.z) x-same z-same T.xz

@@ -2,4 +2,3 @@ pub mod Usual
 pub mod Areas
 pub mod Grid
 pub mod Faces
-pub mod Statements

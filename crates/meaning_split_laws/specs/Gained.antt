@@ -1,27 +1,26 @@
 -- What an accepted split does to the walks of each body. Assumes nothing.
-use Prim.Native.Nat.{ℕ, zero, suc, ◌+◌, ◌≤◌, ◌<◌}
-use Rattle.std.proofs.Common.{arith, sym, ◌∙◌, subst, add-one}
-use Rattle.std.specs.Prelude.{◌≡◌, Bool, ◌&&◌, ◌||◌, neg_ℤ, ◌+ℤ◌, ◌-ℤ◌, length, Float}
+use Prim.Native.Nat.{ℕ, suc, ◌+◌, ◌≤◌, ◌<◌}
+use Rattle.std.proofs.Common.{arith, sym, ◌∙◌, subst}
+use Rattle.std.specs.Prelude.{◌≡◌, Bool, ◌&&◌, ◌||◌, length, Float}
 use Rattle.std.proofs.Math.Path.{refl, ap}
 use Rattle.std.proofs.Math.Bool.{true, false, cond, not, or-true}
 use Rattle.std.proofs.lemmas.Bool.{false≢true}
 use mathlib.Core.List.{List, [], ◌∷◌, ◌++◌, map, map-append}
-use Rattle.std.proofs.Math.IntN.{pos, suc_ℤ, pred_ℤ, neg_ℤ-suc_ℤ, +ℤ-pred_ℤ, suc_ℤ-+ℤ, pred-suc}
 use Rattle.std.proofs.Math.Dec.{eqb, ltb}
 use borrow.Author.Tests.{ltb-true, eqb-true, eqb-false, lt-ltb, ne_eqb, eq-eqb, not-true}
 use Rattle.meaning.specs.Lists.{all, member, count, joined, listed, same}
 use Rattle.meaning.specs.Model.{Sense, positive, negative, Edge, Model, changed, shell, face, loop, fin, edge, Limits}
 use Rattle.meaning.specs.Refuse.{given}
 use Rattle.meaning.specs.Walks.{shells_of, face_walk, face_edges, edge_walk, edge_vertices, vertex_walk}
-use Rattle.meaning.specs.Split.{split_refusal, EdgeSplit, split_line_edge, new_fin, beside, with_new, first_half, second_half, after_split, model_after, Cut, after_all}
+use Rattle.meaning.specs.Split.{split_refusal, EdgeSplit, split_line_edge, new_fin, beside, with_new, first_half, second_half, after_split, model_after}
 use Rattle.meaning.specs.Faults.{counts}
 use Rattle.meaning.specs.Formed.{bit, WellFormed, has_edge}
-use Rattle.meaning_split_laws.specs.Terms.{Walked, OneMore, SameWalks, euler_number}
+use Rattle.meaning_split_laws.specs.Terms.{Walked, OneMore, SameWalks}
 use Rattle.meaning_list_laws.specs.Tests.{and_both, or-first, both_ways}
 use Rattle.meaning_list_laws.specs.Lists.{count-cons, count-append, count-above, member-counted, count-present, member-append, member-one, all-at, all-counted, joined-cons, joined-append, joined_same, count-firsts, member-firsts, count-once, length_more}
-use Rattle.meaning_split_laws.specs.After.{with_new_edge, fin-was, fin-at-new, edge-first, edge_other, edge_fresh, accepted, went_to, bodies_kept}
+use Rattle.meaning_split_laws.specs.After.{with_new_edge, fin-was, fin-at-new, edge-first, edge_other, edge_fresh, accepted, went_to}
 use Rattle.meaning_split_laws.specs.Clean.{own}
-use Rattle.meaning_split_laws.specs.Kept.{in-fins, not-in-fins, split-keeps}
+use Rattle.meaning_split_laws.specs.Kept.{in-fins, not-in-fins}
 use Rattle.meaning_split_laws.specs.Refusals.{answered-given, given-value}
 use Rattle.meaning_split_laws.specs.Doubled.{Doubled, ended, other, after, before, doubled-append, doubled-joined, doubled-mapped, member-without, without-none, length_without, Beside, firsts-doubled}
 use Rattle.meaning_split_laws.specs.Walked.{shells-there, faces-there, edges-there, vertices-there, faces-given, edges-given, vertices-given, has-edge}
@@ -362,28 +361,6 @@ module _ (x : Limits) (m : Model) (w : WellFormed x m) (e : ℕ) (t : Float) (h 
         vertices = vertex-walk-same x m w e t he b hb no_edge;
       })
 
-  one_each : (v k : ℕ) → pos (v + 1) -ℤ pos (k + 1) ≡ pos v -ℤ pos k
-  one_each v k =
-      rw (add-one v, add-one k)
-      (ap (λ i. pos (suc v) +ℤ i) (neg_ℤ-suc_ℤ (pos k)) ∙ +ℤ-pred_ℤ (suc_ℤ (pos v)) (neg_ℤ (pos k)) ∙ ap pred_ℤ (suc_ℤ-+ℤ (pos v) (neg_ℤ (pos k))) ∙ pred-suc (pos v -ℤ pos k))
-
-  pub euler-step : euler_number (model_after x m e t) b ≡ euler_number m b
-  unfolding euler_number
-  euler-step = by (has_edge m b e) refl
-    where
-      by : (c : Bool) → has_edge m b e ≡ c
-          → pos (length (vertex_walk (model_after x m e t) b)) -ℤ pos (length (edge_walk (model_after x m e t) b)) +ℤ pos (length (face_walk (model_after x m e t) b)) ≡ pos (length (vertex_walk m b)) -ℤ pos (length (edge_walk m b)) +ℤ pos (length (face_walk m b))
-      by true q =
-          let more : OneMore m (model_after x m e t) b m.edges.used m.vertices.used = one_more q in
-          rw (more.vertices, more.edges, more.faces) (ap (λ i. i +ℤ pos (length (face_walk m b))) (one_each (length (vertex_walk m b)) (length (edge_walk m b))))
-      by false q = let same : SameWalks m (model_after x m e t) b = same_walks q in rw (same.faces, same.edges, same.vertices)
-
-pub split-adds-one : (x : Limits) (m : Model) (e : ℕ) (t : Float) (s : EdgeSplit) → WellFormed x m → split_line_edge x m e t ≡ given s → (b : ℕ) → b < m.bodies.used
-    → has_edge m b e ≡ true → OneMore m (model_after x m e t) b s.new_edge s.vertex
-split-adds-one x m e t s w a b hb q =
-    subst (λ r. OneMore m (model_after x m e t) b r.new_edge r.vertex) (given-value (split_refusal x m e t) (record { original_edge = e; new_edge = m.edges.used; vertex = m.vertices.used }) s a)
-    (one_more x m w e t (answered-given (split_refusal x m e t) _ _ a) b hb q)
-
 pub new-wire-after : (x : Limits) (m : Model) (e : ℕ) (t : Float) (r : EdgeSplit) → WellFormed x m → split_line_edge x m e t ≡ given r → (s : ℕ) → s < m.shells.used
     → (k l : List ℕ) → (shell m s).wire_edges ≡ k ++ (e ∷ l) → (shell (model_after x m e t) s).wire_edges ≡ k ++ (e ∷ r.new_edge ∷ l)
 new-wire-after x m e t r w a s hs k l q =
@@ -394,14 +371,3 @@ new-wire-after x m e t r w a s hs k l q =
 pub split-leaves-others : (x : Limits) (m : Model) (e : ℕ) (t : Float) (s : EdgeSplit) → WellFormed x m → split_line_edge x m e t ≡ given s → (b : ℕ) → b < m.bodies.used
     → has_edge m b e ≡ false → SameWalks m (model_after x m e t) b
 split-leaves-others x m e t s w a b hb q = same_walks x m w e t (answered-given (split_refusal x m e t) _ _ a) b hb q
-
-pub euler-kept : (x : Limits) (m : Model) (l : List Cut) → WellFormed x m → (b : ℕ) → b < m.bodies.used → euler_number (after_all x m l) b ≡ euler_number m b
-unfolding after_all
-euler-kept x m [] w b hb = refl
-euler-kept x m (c ∷ l) w b hb =
-    euler-kept x (model_after x m c.edge c.fraction) l (split-keeps x m c.edge c.fraction w) b (rw (bodies_kept x m c.edge c.fraction) hb)
-    ∙ go (split_refusal x m c.edge c.fraction) refl
-  where
-    go : (n : ℕ) → split_refusal x m c.edge c.fraction ≡ n → euler_number (model_after x m c.edge c.fraction) b ≡ euler_number m b
-    go zero h = euler-step x m w c.edge c.fraction h b hb
-    go (suc n) h = ap (λ k. euler_number k b) (went_to x m c.edge c.fraction (suc n) h)

@@ -3,7 +3,7 @@ use Prim.Native.Nat.{ℕ, zero, suc, ◌≤◌, ◌<◌}
 use native.Mathlib.Omega.{arith}
 use Rattle.std.proofs.Math.Decide.{dec_lt}
 use Rattle.std.specs.Prelude.{◌≡◌, Bool, eqb, get_or, Float}
-use Rattle.std.proofs.Math.Path.{refl, ap}
+use Rattle.std.proofs.Math.Path.{refl}
 use Rattle.std.proofs.Common.{sym, ◌∙◌}
 use Rattle.std.proofs.Math.Bool.{true, false, not}
 use Rattle.std.proofs.lemmas.Bool.{false≢true}
@@ -269,22 +269,6 @@ module _ (x : Limits) (m : Model) (e : ℕ) (t : Float) where
   pub numbered-rows : AllNumbered (split_rows x m e t)
   numbered-rows = (tt, (omega arith, (omega arith, (numbered-joined (λ i. 2 when not (has m.fins i) ∷ 7 when (fin m i).pcurve ∷ []) (edge m e).fins (λ i. omega arith), (omega arith, (omega arith, (omega arith, (omega arith, (omega arith, (omega arith, (omega arith, (numbered-fins [] (edge m e).fins, (omega arith, (omega arith, tt))))))))))))))
 
-  rows-number : first_refusal (map first (split_rows x m e t)) ≡ split_refusal x m e t
-  unfolding split_refusal
-  rows-number = ap first_refusal (rows-are-tests x m e t) ∙ first-passed (split_tests x m e t)
-
-  pub refused-where : (k n : ℕ) → RefusedAt (split_rows x m e t) k (suc n) → split_refusal x m e t ≡ suc n
-  refused-where k n r = sym rows-number ∙ rows-where (split_rows x m e t) k n r
-
-  pub refused-only : (n : ℕ) → split_refusal x m e t ≡ suc n → (k : ℕ) × RefusedAt (split_rows x m e t) k (suc n)
-  refused-only n h = rows-only (split_rows x m e t) numbered-rows n (rows-number ∙ h)
-
-  pub accepted-where : ((k : ℕ) → Passes (get_or (split_rows x m e t) k [])) → split_refusal x m e t ≡ 0
-  accepted-where p = sym rows-number ∙ rows_pass (split_rows x m e t) p
-
-  pub accepted-only : split_refusal x m e t ≡ 0 → (k : ℕ) → Passes (get_or (split_rows x m e t) k [])
-  accepted-only h = pass-only (split_rows x m e t) numbered-rows (rows-number ∙ h)
-
 -- a list of rows refuses at one row
 pub one-row : (rows : List (List Step)) (j k n i : ℕ) → RefusedAt rows j n → RefusedAt rows k i → j ≡ k
 one-row rows j k n i a b =
@@ -310,14 +294,6 @@ module _ {A : Type 0} where
   pub given-value : (k : ℕ) (a b : A) → answered k a ≡ given b → a ≡ b
   given-value zero a b h = cc
   given-value (suc k) a b h = absurd (let z : ◌≡◌ {A = ℕ} 0 1 = cc in omega arith)
-
-pub row-of-answer : (x : Limits) (m : Model) (e : ℕ) (t : Float) (n : ℕ) → split_line_edge x m e t ≡ refused n → (k : ℕ) × RefusedAt (split_rows x m e t) k n
-row-of-answer x m e t zero h = absurd (never-zero (split_refusal x m e t) h)
-  where
-    never-zero : (k : ℕ) → answered {A = EdgeSplit} k (record { original_edge = e; new_edge = m.edges.used; vertex = m.vertices.used }) ≡ refused 0 → ⊥
-    never-zero zero h = let z : ◌≡◌ {A = ℕ} 0 1 = cc in omega arith
-    never-zero (suc k) h = let z : suc k ≡ 0 = cc in omega arith
-row-of-answer x m e t (suc n) h = refused-only x m e t n (answered-refused (suc n) (split_refusal x m e t) (record { original_edge = e; new_edge = m.edges.used; vertex = m.vertices.used }) h)
 
 -- a refused split leaves the model as it was
 pub refused-keeps : (x : Limits) (m : Model) (e : ℕ) (t : Float) (n : ℕ) → split_line_edge x m e t ≡ refused n → model_after x m e t ≡ m

@@ -30,7 +30,7 @@ use Rattle.meaning_isolation.specs.Laws.{in-front, behind, append-from, map-from
 use Rattle.meaning_isolation.specs.Measured.{start-listed}
 use Rattle.meaning_stops.specs.Stops.{Entity, this, nothing, Part, part}
 use Rattle.meaning_stops.specs.Splits.{row3, row3-fin, row4, row5, row6, row7, row8, row9, row10, row11-fin, row11-fins, row12, row13, row13-loops, row13-shells}
-use Rattle.meaning_stops.specs.Bodies.{first_with, named, face_parent, fins_of, edge_parent, vertex_parent, region_parts, loop_parts, walked_face, edge_parts, vertex_parts, flat_parts, straight_parts, box_parts, start_parts, side_parts, sides_parts}
+use Rattle.meaning_stops.specs.Bodies.{first_with, named, face_parent, fins_of, edge_parent, vertex_parent, region_parts, loop_parts, vertex_parts, flat_parts, straight_parts, box_parts, start_parts, side_parts, sides_parts}
 use Rattle.meaning_stop_laws.specs.Missing.{by, nobody, missing_on}
 use Rattle.meaning_stop_laws.specs.Parts.{Each, each_none, each_more, each_and, each_append, each-joined, each-mapped}
 
@@ -99,7 +99,7 @@ module _ (m : Model) (o : ℕ) where
     abbrev names_face : ℕ → Entity → Bool
     names_face f p = by of_shell p (λ s. member f (shell m s).faces) || by of_loop p (λ l. eqb (loop m l).face f)
 
-    face-named : (f : ℕ) → member f (face_walk m b) ≡ true → names_face f (face_parent m b f) ≡ true
+    pub face-named : (f : ℕ) → member f (face_walk m b) ≡ true → names_face f (face_parent m b f) ≡ true
     unfolding face_walk
     face-named f q = go (first_with (λ s. (shell m s).faces) f (shells_of m b)) refl
       where
@@ -173,19 +173,11 @@ module _ (m : Model) (o : ℕ) where
         (each_and Sound (record { told = λ z. ap₂ ◌&&◌ (gone (has m.regions r) z) q })
         (each-mapped Sound _ (region m r).shells (λ s p. record { told = λ z. ap₂ ◌&&◌ (gone (has m.shells s) z) p })))
 
-    loop-sound : (f l : ℕ) → member l (face m f).loops ≡ true → Each Sound (loop_parts m f l)
+    pub loop-sound : (f l : ℕ) → member l (face m f).loops ≡ true → Each Sound (loop_parts m f l)
     unfolding loop_parts
     loop-sound f l q =
         (each_and Sound (record { told = λ z. ap₂ ◌&&◌ (gone (has m.loops l) z) (rw q) })
         (each-mapped Sound _ (loop m l).fins (λ i p. record { told = λ z. ap₂ ◌&&◌ (gone (has m.fins i) z) (rw p) })))
-
-    face-sound : (f : ℕ) → member f (face_walk m b) ≡ true → Each Sound (walked_face m b f)
-    unfolding walked_face
-    face-sound f q =
-        (each_and Sound (record { told = λ z. ap₂ ◌&&◌ (gone (has m.faces f) z) (face-named f q) }) (each-joined Sound (loop_parts m f) (face m f).loops (loop-sound f)))
-
-    pub edge_row : Each Sound (edge_parts m b)
-    edge_row = each-joined Sound (walked_face m b) (face_walk m b) face-sound
 
     pub vertex-row : Each Sound (vertex_parts m b)
     vertex-row = each-mapped Sound _ (edge_walk m b) (λ e q. record { told = λ z. ap₂ ◌&&◌ (edge-gone e z) (edge-named e q) })

@@ -20,8 +20,8 @@ use Rattle.meaning_list_laws.specs.Tests.{and_both}
 use Rattle.meaning_list_laws.specs.Lists.{member-head}
 use Rattle.meaning_isolation.specs.Reached.{regions_met, shells_met, faces_met, loops_met, fins_met, edges_met, vertices_met, curves_met, surfaces_met, Alike}
 use Rattle.meaning_isolation.specs.Laws.{and_same, cond_same, answered-same, joined-alike}
-use Rattle.meaning_isolation.specs.Walked as Walked
-use Rattle.meaning_isolation.specs.Reported as Reported
+use Rattle.meaning_isolation.proofs.Walked as Walked
+use Rattle.meaning_isolation.proofs.Reported as Reported
 use Rattle.meaning_doubts.specs.Doubts.{Doubt, doubt, on_curve, on_surface, off_curve, ring, queried, unresolved, curve_doubts, end_doubts, sample_doubt, sample_doubts, carried_doubts, fin_doubts, loop_doubts, face_doubts, shell_doubts, region_doubts, doubts, body_doubts}
 
 -- the curve test of the vertex v, by what it reads

@@ -18,8 +18,8 @@ use Rattle.meaning_list_laws.specs.Tests.{and_both, unless-zero}
 use Rattle.meaning_list_laws.specs.Lists.{all-member}
 use Rattle.meaning_isolation.specs.Reached.{faces_met, edges_met, curves_met, surfaces_met, Alike}
 use Rattle.meaning_isolation.specs.Laws.{the-listed, carrier-same}
-use Rattle.meaning_isolation.specs.Walked as Walked
-use Rattle.meaning_isolation.specs.Measured as Measured
+use Rattle.meaning_isolation.proofs.Walked as Walked
+use Rattle.meaning_isolation.proofs.Measured as Measured
 use Rattle.meaning_stops.specs.Stops.{Entity, this, this_curve, this_surface, nothing, Part, part}
 use Rattle.meaning_stops.specs.Bodies.{vertex_parent, flat_parts, straight_parts, box_parts, start_parts, side_parts, sides_parts}
 use Rattle.meaning_stops.specs.Laws.{parts-mapped, unless-all}

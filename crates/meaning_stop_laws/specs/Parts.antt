@@ -9,7 +9,7 @@ use Rattle.meaning.specs.Refuse.{first_refusal}
 use Rattle.meaning_list_laws.specs.Tests.{then-zero}
 use Rattle.meaning_list_laws.specs.Lists.{member-head, member-tail}
 use Rattle.meaning_stops.specs.Stops.{Part, numbers, Row, refusal_of, Stop, stop_at, first_stop}
-use Rattle.meaning_stops.specs.Laws.{first-stopped}
+use Rattle.meaning_stops.proofs.Laws.{first-stopped}
 
 module _ (P : Part → Type 0) where
   abbrev EachOf : List Part → Type 0

@@ -20,7 +20,7 @@ use Rattle.meaning_list_laws.specs.Lists.{member-counted, member-firsts}
 use Rattle.meaning_isolation.specs.Laws.{behind, joined_in, any-in, member-run}
 use Rattle.meaning_stops.specs.Stops.{Entity, this, this_curve, this_surface, nothing, Part, part, Row, Stop, first_stop}
 use Rattle.meaning_stops.specs.Splits.{row3-fin, row11-fin, row11-fins, row12, row13, row13-loops, row13-shells, split_stops, split_stop}
-use Rattle.meaning_stops.specs.Laws.{stop-accepted}
+use Rattle.meaning_stops.proofs.Laws.{stop-accepted}
 use Rattle.meaning_stop_laws.specs.Parts.{Each, each_none, each_and, each_append, each-joined, each-mapped, EachRow, rows_none, rows_more, rows-and, told-by}
 use Rattle.meaning_stop_laws.specs.Statements.{foreign-edge-is-missing}
 

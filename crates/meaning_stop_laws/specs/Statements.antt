@@ -18,10 +18,10 @@ use Rattle.meaning.specs.Offices.{office_refusal, body_for, foreign_edge, edge_f
 use Rattle.meaning_list_laws.specs.Tests.{then-zero, unless-zero}
 use Rattle.meaning_isolation.specs.Reached.{Alike}
 use Rattle.meaning_isolation.specs.Laws.{answered-same}
-use Rattle.meaning_isolation.specs.Offices.{own, OfficeAlike, OthersDiffer}
-use Rattle.meaning_isolation.specs.Asked.{there-for, own-itself, others-alike}
-use Rattle.meaning_isolation.specs.Measured as Measures
-use Rattle.meaning_isolation.specs.Walked as Walks
+use Rattle.meaning_isolation.specs.Offices.{own, OfficeAlike}
+use Rattle.meaning_isolation.specs.Asked.{there-for, own-itself}
+use Rattle.meaning_isolation.proofs.Measured as Measures
+use Rattle.meaning_isolation.proofs.Walked as Walks
 use Rattle.meaning_stops.specs.Stops.{this, nothing, part, numbers, Row, ◌∶◌, stop_at, first_part, first_stop}
 use Rattle.meaning_stops.specs.Splits.{row1, split_stops, split_stop}
 use Rattle.meaning_stops.specs.Bodies.{face_parts, edge_parts, vertex_parts, flat_parts, straight_parts, faces_stops, edges_stops, vertices_stops, box_stops, volume_stops, office_stop, faces_stop, edges_stop, vertices_stop, box_stop, volume_stop}
@@ -156,10 +156,6 @@ module _ (m n : Model) (o : ℕ) (a : OfficeAlike m n o) (b : ℕ) where
         volume = by-office volume_stops m n o b stops.volume;
         doubts = unchecked;
       }
-
--- whatever stands in the other's records (`OthersDiffer`: meaning_isolation/specs/Offices.antt)
-pub others-make-no-difference : (m n : Model) (o : ℕ) → OthersDiffer m n o → (b : ℕ) → ToldSame m n o b
-others-make-no-difference m n o d = office-told m n o (others-alike m n o d)
 
 -- ---- splits: of an edge that is missing or the other's, the same is told whatever stands in the tables and however large they are
 

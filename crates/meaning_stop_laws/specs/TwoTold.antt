@@ -1,5 +1,5 @@
 -- "walks (which record is missing, on which parent)", and so every other question: where 2 is told, the record is missing, and the parent that is told names it. For all models. Assumes nothing.
-use Rattle.std.specs.Prelude.{ℕ, ◌≡◌, true, eqb, leb, length, Float}
+use Rattle.std.specs.Prelude.{ℕ, ◌≡◌, true, leb, Float}
 use Rattle.std.proofs.Common.{arith, sym, ap, ◌∙◌}
 use Rattle.std.proofs.Math.Path.{refl, ap₂}
 use Rattle.std.proofs.Math.Bool.{◌&&◌}
@@ -10,15 +10,14 @@ use Rattle.interval_arithmetic.specs.Ops.{zero_f}
 use Rattle.geom_lines_planes.specs.Refuse.{◌unless◌, ◌then◌}
 use Rattle.meaning.specs.Lists.{joined, is_some}
 use Rattle.meaning.specs.Floats.{float_of}
-use Rattle.meaning.specs.Model.{Model, Limits, largest, has, body, edge}
+use Rattle.meaning.specs.Model.{Model, Limits, largest, edge}
 use Rattle.meaning.specs.Refuse.{first_refusal}
 use Rattle.meaning.specs.Walks.{face_walk, edge_walk}
-use Rattle.meaning.specs.Inquire.{is_solid, solid_sides}
-use Rattle.meaning.specs.Offices.{office_refusal, body_for, edge_for}
+use Rattle.meaning.specs.Offices.{office_refusal, body_for}
 use Rattle.meaning_list_laws.specs.Tests.{then-zero, unless-zero}
 use Rattle.meaning_stops.specs.Stops.{nothing, part, numbers, Row, Stop, first_stop}
-use Rattle.meaning_stops.specs.Splits.{row1, row4, split_stops, split_stop, bounds_stops, bounds_stop}
-use Rattle.meaning_stops.specs.Bodies.{region_parts, face_parts, flat_parts, straight_parts, faces_stops, edges_stops, vertices_stops, box_stops, volume_stops, faces_stop, edges_stop, vertices_stop, box_stop, volume_stop}
+use Rattle.meaning_stops.specs.Splits.{row1, row4, bounds_stops, bounds_stop}
+use Rattle.meaning_stops.specs.Bodies.{flat_parts, straight_parts}
 use Rattle.meaning_stop_laws.specs.Missing.{missing_on}
 use Rattle.meaning_stop_laws.specs.Parts.{Each, each_none, each_and, each-joined, EachRow, rows_none, rows_more, rows-and, told-by}
 use Rattle.meaning_stop_laws.specs.Absent as Absent
@@ -29,7 +28,7 @@ pub record TwoTold (m : Model) (o : ℕ) (s : Stop) : Type 0 where
   pub missing : s.number ≡ 2 → missing_on m o s.entity s.parent ≡ true
 
 module _ (m : Model) (o : ℕ) where
-  told : (l : List Row) → EachRow (Sound m o) l → TwoTold m o (first_stop l)
+  pub told : (l : List Row) → EachRow (Sound m o) l → TwoTold m o (first_stop l)
   told l a =
       record {
         missing = λ z.
@@ -37,45 +36,24 @@ module _ (m : Model) (o : ℕ) where
             ap (λ (s : Stop). missing_on m o s.entity s.parent) t.stop ∙ t.holds.told (sym (ap (λ (s : Stop). s.number) t.stop) ∙ z);
       }
 
-  office-sound : Each (Sound m o) (part 1 (office_refusal o) nothing nothing ∷ [])
+  pub office-sound : Each (Sound m o) (part 1 (office_refusal o) nothing nothing ∷ [])
   office-sound = (each_and (Sound m o) (Absent.never m o 1 1 (leb o 1) nothing nothing (omega arith)) (each_none (Sound m o)))
 
   -- ---- splits
 
   module _ (x : Limits) (e : ℕ) (t : Float) where
-    row1-sound : Each (Sound m o) (row1 e t)
+    pub row1-sound : Each (Sound m o) (row1 e t)
     row1-sound =
         (each_and (Sound m o) (Absent.never m o 1 1 (finite t) _ _ (omega arith))
         (each_and (Sound m o) (Absent.never m o 2 1 (lt zero_f t) _ _ (omega arith))
         (each_and (Sound m o) (Absent.never m o 3 1 (lt t (float_of 1)) _ _ (omega arith)) (each_none (Sound m o)))))
 
   -- where row 4 passes there are ends
-  ends : (e : ℕ) → first_refusal (numbers (row4 m e)) ≡ 0 → (is_some (edge m e).start ≡ true) × (is_some (edge m e).end ≡ true)
+  pub ends : (e : ℕ) → first_refusal (numbers (row4 m e)) ≡ 0 → (is_some (edge m e).start ≡ true) × (is_some (edge m e).end ≡ true)
   unfolding first_refusal
   ends e z =
       let p = then-zero (7 unless is_some (edge m e).start) (7 unless is_some (edge m e).end then 0) z in
       (unless-zero 6 (is_some (edge m e).start) p.0, unless-zero 6 (is_some (edge m e).end) (then-zero (7 unless is_some (edge m e).end) 0 p.1).0)
-
-  pub split-two : (x : Limits) (e : ℕ) (t : Float) → TwoTold m o (split_stop x m o e t)
-  unfolding split_stop split_stops
-  split-two x e t =
-      let E = edge_for m o e in
-      told _
-      (rows-and (Sound m o) office-sound
-      (rows-and (Sound m o) (row1-sound x e t)
-      (rows-and (Sound m o) (each_and (Sound m o) (record { told = λ z. ap₂ ◌&&◌ (Absent.gone m o (has m.edges E) z) refl }) (each_none (Sound m o)))
-      (rows-and (Sound m o) (Absent.row3-sound m o x E t)
-      (rows_more (Sound m o) (Absent.row4-sound m o x E t)
-      (λ z. (rows-and (Sound m o) (Absent.row5-sound m o x E t)
-      (rows-and (Sound m o) (Absent.row6-sound m o x E t (ends E z).0 (ends E z).1)
-      (rows-and (Sound m o) (Absent.row7-sound m o x E t)
-      (rows-and (Sound m o) (Absent.row8-sound m o x E t)
-      (rows-and (Sound m o) (Absent.row9-sound m o x E t)
-      (rows-and (Sound m o) (Absent.row10-sound m o x E t)
-      (rows-and (Sound m o) (Absent.row11-sound m o x E t [] (edge m E).fins)
-      (rows-and (Sound m o) (Absent.row12-sound m o x E t)
-      (rows-and (Sound m o) (Absent.row13-sound m o x E t)
-      (rows_none (Sound m o)))))))))))))))))
 
   pub bounds-two : (e : ℕ) → TwoTold m o (bounds_stop m e)
   unfolding bounds_stops
@@ -92,51 +70,11 @@ module _ (m : Model) (o : ℕ) where
   -- ---- walks, box and volume
 
   module _ (b : ℕ) where
-    abbrev own : ℕ
+    abbrev pub own : ℕ
     own = body_for m o b
 
-    faces-sound : Each (Sound m o) (face_parts m b own)
-    faces-sound = (each_and (Sound m o) (record { told = λ z. ap₂ ◌&&◌ (Absent.gone m o (has m.bodies own) z) refl })
-        (each-joined (Sound m o) (region_parts m own) (body m own).regions (Absent.region-sound m o own)))
-
-    flat_sound : Each (Sound m o) (joined (flat_parts m own) (face_walk m own))
+    pub flat_sound : Each (Sound m o) (joined (flat_parts m own) (face_walk m own))
     flat_sound = each-joined (Sound m o) (flat_parts m own) (face_walk m own) (Absent.flat_sound m o own)
 
-    straight-sound : Each (Sound m o) (joined (straight_parts m own) (edge_walk m own))
+    pub straight-sound : Each (Sound m o) (joined (straight_parts m own) (edge_walk m own))
     straight-sound = each-joined (Sound m o) (straight_parts m own) (edge_walk m own) (Absent.straight-sound m o own)
-
-    pub faces-two : TwoTold m o (faces_stop m o b)
-    unfolding faces_stop faces_stops
-    faces-two = told _ (rows-and (Sound m o) office-sound (rows-and (Sound m o) faces-sound (rows_none (Sound m o))))
-
-    pub edges-two : TwoTold m o (edges_stop m o b)
-    unfolding edges_stop edges_stops
-    edges-two = told _ (rows-and (Sound m o) office-sound (rows-and (Sound m o) faces-sound (rows-and (Sound m o) (Absent.edge_row m o own) (rows_none (Sound m o)))))
-
-    pub vertices-two : TwoTold m o (vertices_stop m o b)
-    unfolding vertices_stop vertices_stops
-    vertices-two = told _ (rows-and (Sound m o) office-sound
-        (rows-and (Sound m o) faces-sound (rows-and (Sound m o) (Absent.edge_row m o own) (rows-and (Sound m o) (Absent.vertex-row m o own) (rows_none (Sound m o))))))
-
-    pub box-two : TwoTold m o (box_stop m o b)
-    unfolding box_stop box_stops
-    box-two =
-        told _
-        (rows-and (Sound m o) office-sound
-        (rows-and (Sound m o) faces-sound
-        (rows-and (Sound m o) flat_sound
-        (rows-and (Sound m o) (Absent.edge_row m o own)
-        (rows-and (Sound m o) straight-sound (rows-and (Sound m o) (Absent.vertex-row m o own) (rows-and (Sound m o) (Absent.box-row m o own) (rows_none (Sound m o)))))))))
-
-    pub volume-two : TwoTold m o (volume_stop m o b)
-    unfolding volume_stop volume_stops
-    volume-two =
-        told _
-        (rows-and (Sound m o) office-sound
-        (rows-and (Sound m o) faces-sound
-        (rows-and (Sound m o) flat_sound
-        (rows-and (Sound m o) (Absent.edge_row m o own)
-        (rows-and (Sound m o) straight-sound
-        (rows-and (Sound m o) (each_and (Sound m o) (Absent.never m o 1 6 (is_solid (body m own).kind) _ _ (omega arith)) (each_none (Sound m o)))
-        (rows-and (Sound m o) (Absent.sides-row m o (solid_sides m own))
-        (rows-and (Sound m o) (each_and (Sound m o) (Absent.never-if m o 1 4 (eqb (length (solid_sides m own)) 0) _ _ (omega arith)) (each_none (Sound m o))) (rows_none (Sound m o))))))))))

@@ -12,7 +12,7 @@ use Rattle.meaning.specs.Faults.{of_body, of_region, of_shell, of_face, of_loop,
 use Rattle.meaning_list_laws.specs.Tests.{unless-zero}
 use Rattle.meaning_isolation.specs.Reached.{regions_met, faces_met, loops_met, Alike}
 use Rattle.meaning_isolation.specs.Laws.{joined-from, joined-alike}
-use Rattle.meaning_isolation.specs.Walked as Walked
+use Rattle.meaning_isolation.proofs.Walked as Walked
 use Rattle.meaning_stops.specs.Stops.{this, nothing, part}
 use Rattle.meaning_stops.specs.Bodies.{first_with, named, face_parent, fins_of, edge_parent, vertex_parent, region_parts, face_parts, loop_parts, walked_face, edge_parts, vertex_parts}
 use Rattle.meaning_stop_laws.specs.Follows.{Follows, follows-more, follows-joined, follows_same, follows-mapped, first_alike}

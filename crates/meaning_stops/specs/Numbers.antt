@@ -4,7 +4,7 @@ use Rattle.std.specs.Prelude.{◌≡◌, true, false, cond, ◌&&◌}
 use Rattle.std.proofs.Math.Path.{refl, sym, ap, ap₂}
 use Rattle.std.proofs.Common.{◌∙◌}
 use Rattle.std.proofs.Math.Bool.{Bool}
-use mathlib.Core.List.{List, [], ◌∷◌, ◌++◌, map}
+use mathlib.Core.List.{[], ◌∷◌, ◌++◌, map}
 use Rattle.std.proofs.Math.Dec.{eqb, leb}
 use Rattle.std.proofs.Math.ListN.{length}
 use Rattle.std.specs.Float.Ieee.{Float, lt}
@@ -17,14 +17,14 @@ use Rattle.geom_carriers.specs.declared.Carrier.TheVariants as Carriers
 use Rattle.geom_carriers.specs.declared.Found.TheVariants.{There, Missing}
 use Rattle.geom_carriers.specs.Queries.{line_refusal, plane_refusal, the_plane}
 use Rattle.geom_signs.specs.Signs.{span_s}
-use Rattle.meaning.specs.Lists.{run, member, count, the, is_some}
+use Rattle.meaning.specs.Lists.{run, count, the, is_some}
 use Rattle.meaning.specs.Floats.{float_of}
 use Rattle.meaning.specs.Model.{Model, Limits, largest, Table, has, carrier_at, shell, face, loop, fin, edge, curve, surface}
 use Rattle.meaning.specs.Refuse.{◌if◌, first_refusal}
-use Rattle.meaning.specs.Split.{is_positive, lo, hi, parameter, start_point, end_point, split_point, apart, test1, test2, test3, test4, test5, test6, test7, test8, test9, test10, on_plane, test11-fin, test11-fins, test12, gain, edge_fits, loops_fit, shells_fit, test13, split_tests}
+use Rattle.meaning.specs.Split.{is_positive, lo, hi, parameter, start_point, end_point, split_point, apart, test1, test2, test3, test4, test5, test6, test7, test8, test9, test10, on_plane, test11-fin, test12, gain, edge_fits, loops_fit, shells_fit, test13}
 use Rattle.meaning.specs.Faults.{of_shell, of_loop, of_fin, no_line, no_plane}
 use Rattle.meaning_stops.specs.Stops.{this, nothing, part, numbers, refusal_of}
-use Rattle.meaning_stops.specs.Splits.{row1, row2, row3, row3-fin, row4, row5, row6, row7, row8, row9, row10, row11-fin, row11-fins, row12, row13, row13-loops, row13-shells, split_stops, bounds_stops}
+use Rattle.meaning_stops.specs.Splits.{row1, row2, row3, row3-fin, row4, row5, row6, row7, row8, row9, row10, row11-fin, row12, row13, row13-loops, row13-shells, bounds_stops}
 use Rattle.meaning_stops.specs.Laws.{parts-append, parts-joined, parts-mapped, unless-both, unless-all, unless-below}
 
 -- ---- carriers: "missing 2, not a line 7"; "missing 2; not a plane 7"
@@ -82,32 +82,32 @@ module _ (x : Limits) (m : Model) (e : ℕ) where
   unfolding first_refusal
   fin-third i = ap (λ (n : ℕ). 2 unless has m.fins i then n) (one (7 if (fin m i).pcurve))
 
-  third : first_refusal (numbers (row3 m e)) ≡ test3 m e
+  pub third : first_refusal (numbers (row3 m e)) ≡ test3 m e
   third = parts-joined (row3-fin m e) (λ i. 2 unless has m.fins i then 7 if (fin m i).pcurve) (edge m e).fins fin-third
 
-  fourth : first_refusal (numbers (row4 m e)) ≡ test4 m e
+  pub fourth : first_refusal (numbers (row4 m e)) ≡ test4 m e
   unfolding first_refusal
   fourth = two 7 (is_some (edge m e).start) (is_some (edge m e).end)
 
-  fifth : first_refusal (numbers (row5 m e)) ≡ test5 m e
+  pub fifth : first_refusal (numbers (row5 m e)) ≡ test5 m e
   unfolding first_refusal
   fifth =
       let c : ℕ = the (edge m e).curve in
       ap (λ (n : ℕ). 1 unless is_some (edge m e).curve then n) (line-parts m.curves c 0 ∙ one (line_refusal (curve m c)))
 
-  sixth : first_refusal (numbers (row6 m e)) ≡ test6 m e
+  pub sixth : first_refusal (numbers (row6 m e)) ≡ test6 m e
   unfolding first_refusal
   sixth = ap (λ (n : ℕ). 2 unless has m.vertices (the (edge m e).start) then n) (one (2 unless has m.vertices (the (edge m e).end)))
 
-  seventh : first_refusal (numbers (row7 m e)) ≡ test7 m e
+  pub seventh : first_refusal (numbers (row7 m e)) ≡ test7 m e
   unfolding first_refusal
   seventh = one (test7 m e)
 
-  eighth : first_refusal (numbers (row8 m e)) ≡ test8 m e
+  pub eighth : first_refusal (numbers (row8 m e)) ≡ test8 m e
   unfolding first_refusal test8
   eighth = three 7 (finite (lo m e)) (finite (hi m e)) (is_positive (span_s (lo m e) (hi m e)))
 
-  twelfth : first_refusal (numbers (row12 m e)) ≡ test12 m e
+  pub twelfth : first_refusal (numbers (row12 m e)) ≡ test12 m e
   unfolding test12
   twelfth =
       parts-mapped (λ s. part 1 (1 unless leb (count e (shell m s).wire_edges) 1) (this of_shell s) nothing) (run 0 m.shells.used)
@@ -126,7 +126,7 @@ module _ (x : Limits) (m : Model) (e : ℕ) where
       (parts-mapped (λ i. part 5 (8 unless loop_fits i) (this of_loop (fin m i).owner) (this of_fin i)) (edge m e).fins ∙ sym (unless-all 8 loop_fits (edge m e).fins))
       (parts-mapped (λ s. part 6 (8 unless shell_fits s) (this of_shell s) nothing) (run 0 m.shells.used) ∙ sym (unless-below 8 shell_fits m.shells.used))
 
-  thirteenth : first_refusal (numbers (row13 x m e)) ≡ test13 x m e
+  pub thirteenth : first_refusal (numbers (row13 x m e)) ≡ test13 x m e
   unfolding first_refusal test13
   thirteenth =
       ap (λ (n : ℕ). 8 unless a then 8 unless b then 8 unless c then 8 unless edge_fits x m e then n) lists-fit ∙ six a b c (edge_fits x m e) (loops_fit x m e) (shells_fit x m e)
@@ -149,23 +149,23 @@ module _ (x : Limits) (m : Model) (e : ℕ) where
       six true true true true true g = refl
 
 module _ (m : Model) (e : ℕ) (t : Float) where
-  first : (asked : ℕ) → first_refusal (numbers (row1 asked t)) ≡ test1 t
+  pub first : (asked : ℕ) → first_refusal (numbers (row1 asked t)) ≡ test1 t
   unfolding first_refusal
   first asked = three 1 (finite t) (lt zero_f t) (lt t (float_of 1))
 
-  second : (asked : ℕ) → first_refusal (numbers (row2 m asked e)) ≡ test2 m e
+  pub second : (asked : ℕ) → first_refusal (numbers (row2 m asked e)) ≡ test2 m e
   unfolding first_refusal
   second asked = one (2 unless has m.edges e)
 
-  ninth : first_refusal (numbers (row9 m e t)) ≡ test9 m e t
+  pub ninth : first_refusal (numbers (row9 m e t)) ≡ test9 m e t
   unfolding first_refusal
   ninth = one (test9 m e t)
 
-  tenth : first_refusal (numbers (row10 m e t)) ≡ test10 m e t
+  pub tenth : first_refusal (numbers (row10 m e t)) ≡ test10 m e t
   unfolding first_refusal test10
   tenth = ap (λ (n : ℕ). 4 unless apart m (split_point m e t) (start_point m e) then n) (one (4 unless apart m (split_point m e t) (end_point m e)))
 
-  fin-eleventh : (i : ℕ) → first_refusal (numbers (row11-fin m e t i)) ≡ test11-fin m e t i
+  pub fin-eleventh : (i : ℕ) → first_refusal (numbers (row11-fin m e t i)) ≡ test11-fin m e t i
   unfolding first_refusal row11-fin test11-fin
   fin-eleventh i =
       let l : ℕ = (fin m i).owner in
@@ -175,19 +175,6 @@ module _ (m : Model) (e : ℕ) (t : Float) where
       ap (λ (n : ℕ). 1 unless eqb (fin m i).edge e then 2 unless has m.loops l then 1 unless eqb (count i (loop m l).fins) 1 then 2 unless has m.faces f then 1 unless is_some (face m f).surface then n)
       (plane-parts m.surfaces s (at (lo m e) then at (hi m e) then at (parameter m e t) then 0)
       ∙ ap (λ (n : ℕ). plane_refusal (surface m s) then at (lo m e) then at (hi m e) then n) (one (at (parameter m e t))))
-
-  eleventh : (seen l : List ℕ) → first_refusal (numbers (row11-fins m e t seen l)) ≡ test11-fins m e t seen l
-  unfolding row11-fins test11-fins first_refusal
-  eleventh seen [] = refl
-  eleventh seen (i ∷ l) =
-      ap (λ (n : ℕ). 1 if member i seen then n)
-      (parts-append (row11-fin m e t i) (row11-fins m e t (i ∷ seen) l) ∙ ap₂ (λ (a b : ℕ). a then b) (fin-eleventh i) (eleventh (i ∷ seen) l))
-
--- each row refuses what its test does, whatever id was asked about
-pub rows-are-tests : (x : Limits) (m : Model) (asked e : ℕ) (t : Float) → map refusal_of (split_stops x m asked e t) ≡ split_tests x m e t
-unfolding split_stops refusal_of
-rows-are-tests x m asked e t =
-    rw (first m e t asked, second m e t asked, third x m e, fourth x m e, fifth x m e, sixth x m e, seventh x m e, eighth x m e, ninth m e t, tenth m e t, eleventh m e t [] (edge m e).fins, twelfth x m e, thirteenth x m e)
 
 pub bounds-are-tests : (m : Model) (e : ℕ) → map refusal_of (bounds_stops m e) ≡ test2 m e ∷ test4 m e ∷ test5 m e ∷ test6 m e ∷ test7 m e ∷ test8 m e ∷ []
 unfolding bounds_stops refusal_of

@@ -1,16 +1,15 @@
 -- What a call answers an office is what the call of before answers, or 9 and 1 for an office above 1. Assumes nothing.
-use Rattle.std.specs.Prelude.{ℕ, zero, suc, ◌+◌, ◌*◌, ◌<◌, ◌≤◌, ◌≡◌, Bool, List, [], ◌∷◌, leb, length, drop, Float}
-use Rattle.std.proofs.Common.{arith, sym, ap, ◌∙◌, lit≤, get_or-take, get_or-drop}
+use Rattle.std.specs.Prelude.{ℕ, zero, suc, ◌+◌, ◌*◌, ◌<◌, ◌≤◌, ◌≡◌, Bool, List, [], ◌∷◌, length, drop, Float}
+use Rattle.std.proofs.Common.{arith, ◌∙◌, lit≤, get_or-take, get_or-drop}
 use Rattle.std.proofs.Math.Path.{refl}
 use Rattle.std.proofs.Math.Bool.{true, false}
 use borrow.Author.Tests.{le-leb, lt-leb, lt-ltb, le-ltb, eq-eqb, ne_eqb}
-use Rattle.geom_lines_planes.specs.Refuse.{◌unless◌, ◌then◌, answer}
+use Rattle.geom_lines_planes.specs.Refuse.{◌unless◌, ◌then◌}
 use Rattle.meaning.specs.Offices.{office_number, body_for}
 use Rattle.memory_layout.specs.Names.{BODIES, AT_BODY_OFFICE}
 use Rattle.memory_layout.specs.Layout.{word, base, word_at, words_of}
 use Rattle.memory_layout.specs.Decode.{office_of, decode}
 use Rattle.memory_layout.specs.Readable.{readable, tag_number}
-use Rattle.memory_writes.specs.Put.{unless_refused}
 use Rattle.memory_offices.specs.Sight.{by_office}
 
 -- behind the last word
@@ -59,32 +58,6 @@ module _ (room w : List ℕ) (x : List Float) (o : ℕ) where
   office-above n h = let e = lt-leb o 1 h in rw e (go (readable room w x))
     where
       go : (b : Bool) → (9 unless b then 1 then n) ≡ (9 unless b then 1)
-      go true = refl
-      go false = refl
-
-  -- and so the answer that is made of it
-  pub answer-above : {A B : Type 0} (is : B → A) (refused : ℕ → A) (n k : ℕ) (v : B) → 1 < o → k ≡ tag_number room w x → refused k ≡ answer is refused (by_office room w x o n) v
-  unfolding tag_number
-  answer-above is refused n k v h e = rw (office-above n h, e) (go (readable room w x))
-    where
-      go : (b : Bool) → refused (9 unless b then 1) ≡ answer is refused (9 unless b then 1) v
-      go true = refl
-      go false = refl
-
-  pub answer-there : {A B : Type 0} (is : B → A) (refused : ℕ → A) (n : ℕ) (v : B) → o ≤ 1
-      → answer is refused (9 unless readable room w x then n) v ≡ answer is refused (by_office room w x o (9 unless readable room w x then n)) v
-  answer-there is refused n v h = ap (λ k. answer is refused k v) (sym (office-there n h))
-
-  -- and what is written by it
-  pub unless-there : {A : Type 0} (n : ℕ) (new old : A) → o ≤ 1
-      → unless_refused (9 unless readable room w x then n) new old ≡ unless_refused (by_office room w x o (9 unless readable room w x then n)) new old
-  unless-there n new old h = ap (λ k. unless_refused k new old) (sym (office-there n h))
-
-  pub unless-above : {A : Type 0} (n : ℕ) (new old : A) → 1 < o → old ≡ unless_refused (by_office room w x o n) new old
-  unfolding tag_number
-  unless-above n new old h = rw (office-above n h) (go (readable room w x))
-    where
-      go : (b : Bool) → old ≡ unless_refused (9 unless b then 1) new old
       go true = refl
       go false = refl
 

@@ -1,19 +1,15 @@
 -- All changes of an accepted mending, one after the other. Assumes nothing.
-use Rattle.std.specs.Prelude.{ℕ, ◌≤◌, ◌≡◌, refl, true, ◌&&◌, List, [], ◌∷◌, map, leb, ltb, length, Float}
-use Rattle.std.proofs.Common.{lt_of_lt_of_le, arith, ltb-true}
+use Rattle.std.specs.Prelude.{ℕ, ◌≤◌, ◌≡◌, refl, true, ◌&&◌, List, [], ◌∷◌, map, leb, ltb, length}
+use Rattle.std.proofs.Common.{lt_of_lt_of_le, ltb-true}
 use Rattle.geom_lines_planes.specs.Refuse.{◌unless◌, ◌then◌}
 use Rattle.meaning.specs.Lists.{every}
 use Rattle.meaning.specs.Model.{Model, Table, changed}
 use Rattle.meaning_list_laws.specs.Tests.{and_both, then-zero, unless-zero}
-use Rattle.meaning_mends.specs.Mends.{Child, a_region, a_shell, a_loop, a_fin, child_table, Change, renamed, enlisted, made, made_all, meetings, once, changes, body_there, lists_refusal, fits, mend_refusal}
+use Rattle.meaning_mends.specs.Mends.{Child, child_table, Change, renamed, enlisted, made, meetings, once, changes, body_there, lists_refusal, fits, mend_refusal}
 use Rattle.memory_layout.specs.Layout.{word}
-use Rattle.memory_layout.specs.Decode.{decode}
-use Rattle.memory_layout.specs.Fit.{Fit}
 use Rattle.memory_writes.specs.Change.{SameTable, SameModel}
-use Rattle.mend_writes.specs.Made.{made_word, made_words}
 use Rattle.mend_writes.specs.Laws.{AllWithin}
-use Rattle.mend_effects.specs.Due.{records, records-made, AllDue, changes-due}
-use Rattle.mend_effects.specs.One.{Kept, change-kept}
+use Rattle.mend_effects.specs.Due.{records, records-made, AllDue}
 
 -- the model itself is where they begin
 same-table : {A : Type 0} (t : Table A) → SameTable t t
@@ -36,15 +32,6 @@ same-model m =
       surfaces = same-table m.surfaces;
     }
 
-pub all-kept : (room : List ℕ) (x : List Float) (l : List Change) (w : List ℕ) (m : Model) → Fit room w x → SameModel (decode room w x) m → AllDue m l → every (map fits l) ≡ true
-    → Kept room (made_words room w l) x (made_all m l)
-unfolding made_words made_all every
-all-kept room x [] w m f s h e = record { fit = f; model = s }
-all-kept room x (c ∷ l) w m f s h e =
-    let both = and_both (fits c) (every (map fits l)) e in
-    let one = change-kept room w x m f s c h.0 both.0 in
-    all-kept room x l (made_word room w c) (made m c) one.fit one.model h.1 both.1
-
 -- ---- a mending that is not refused
 
 -- its body is there, no record of it has two parents, and no edge has a ninth fin
@@ -64,11 +51,8 @@ open_of m b n e =
       room = (and_both (every (map fits (changes m b))) (leb (length (changes m b)) n) (unless-zero 7 _ a.1)).0;
     }
 
-pub all-due : (m : Model) (b : ℕ) → Open m b → AllDue m (changes m b)
-all-due m b o = changes-due m b o.there
-
 -- its records have room in the tables
-all-within : (room : List ℕ) (l : List Change) (m : Model) → ((k : Child) → records m k ≤ word room (child_table k)) → m.edges.used ≤ word room 6 → AllDue m l → every (map fits l) ≡ true
+pub all-within : (room : List ℕ) (l : List Change) (m : Model) → ((k : Child) → records m k ≤ word room (child_table k)) → m.edges.used ≤ word room 6 → AllDue m l → every (map fits l) ≡ true
     → AllWithin room l
 unfolding every made changed
 all-within room [] m h g d e = tt
@@ -77,16 +61,3 @@ all-within room (renamed k i old new ∷ l) m h g d e =
 all-within room (enlisted f place i ∷ l) m h g d e =
     let both = and_both (ltb place 8) (every (map fits l)) e in
     ((lt_of_lt_of_le d.0.0 g, ltb-true place 8 both.0), all-within room l (made m (enlisted f place i)) (λ c. rw (records-made m (enlisted f place i) c) (h c)) g d.1 both.1)
-
-pub open-within : (room w : List ℕ) (x : List Float) (b : ℕ) → Fit room w x → Open (decode room w x) b → AllWithin room (changes (decode room w x) b)
-unfolding decode
-open-within room w x b f o = all-within room (changes m b) m used (f.sized.counts 6 (omega arith)) (all-due m b o) o.room
-  where
-    m : Model
-    m = decode room w x
-
-    used : (k : Child) → records m k ≤ word room (child_table k)
-    used a_region = f.sized.counts 1 (omega arith)
-    used a_shell = f.sized.counts 2 (omega arith)
-    used a_loop = f.sized.counts 4 (omega arith)
-    used a_fin = f.sized.counts 5 (omega arith)

@@ -1,6 +1,5 @@
 -- The changes of an accepted mending, each asked of the model that those before it left: its record is there, and a fin is put behind the last of its edge's. Assumes nothing.
 use Rattle.std.specs.Prelude.{ℕ, ◌<◌, ◌≡◌, refl, Bool, false, not, eqb, length}
-use Rattle.std.proofs.Common.{sym, subst}
 use Rattle.std.proofs.Math.Bool.{true}
 use mathlib.Core.List.{List, [], ◌∷◌, ◌++◌, map}
 use borrow.Author.Tests.{ltb-true}
@@ -8,8 +7,8 @@ use Rattle.meaning.specs.Lists.{all, member, joined}
 use Rattle.meaning.specs.Model.{Model, changed, has, body, region, shell, face, loop, fin, edge}
 use Rattle.meaning.specs.Walks.{readable_fin}
 use Rattle.meaning_list_laws.specs.Tests.{and_both}
-use Rattle.meaning_mends.specs.Mends.{Child, a_region, a_shell, a_loop, a_fin, named, Meeting, met, loop_meetings, face_meetings, shell_meetings, region_meetings, meetings, Change, renamed, enlisted, made, made_all, change_if, parent_change, fin_change, changes, loop_there, face_there, shell_there, region_there, body_there}
-use Rattle.meaning_mends.specs.Laws.{Want, parent, listing, change_for, wants_for, list_wants, wants_all, asked-by-one, Each, each_append, Met}
+use Rattle.meaning_mends.specs.Mends.{Child, a_region, a_shell, a_loop, a_fin, named, Meeting, met, loop_meetings, face_meetings, shell_meetings, region_meetings, meetings, Change, renamed, enlisted, made, made_all, change_if, parent_change, fin_change, loop_there, face_there, shell_there, region_there, body_there}
+use Rattle.meaning_mends.specs.Laws.{Want, parent, listing, change_for, list_wants, wants_all, Each, each_append, Met}
 
 -- how many regions, shells, loops and fins there are
 abbrev pub records : Model → Child → ℕ
@@ -27,7 +26,7 @@ abbrev pub AllDue : Model → List Change → Type 0
 AllDue m [] = Unit {0}
 AllDue m (c ∷ l) = Due m c × AllDue (made m c) l
 
-due-append : (m : Model) (k l : List Change) → AllDue m k → AllDue (made_all m k) l → AllDue m (k ++ l)
+pub due-append : (m : Model) (k l : List Change) → AllDue m k → AllDue (made_all m k) l → AllDue m (k ++ l)
 unfolding made_all
 due-append m [] l a b = b
 due-append m (c ∷ k) l a b = (a.0, due-append (made m c) k l a.1 b)
@@ -38,7 +37,7 @@ abbrev pub Present : Model → Want → Type 0
 Present m (parent t) = t.id < records m t.child
 Present m (listing i) = (i < m.fins.used) × ((fin m i).edge < m.edges.used)
 
-want-due : (m : Model) (v : Want) → Present m v → AllDue m (change_for m v)
+pub want-due : (m : Model) (v : Want) → Present m v → AllDue m (change_for m v)
 unfolding parent_change fin_change
 want-due m (parent t) h = by (not (eqb (named m t.child t.id) t.parent))
   where
@@ -64,7 +63,7 @@ unfolding made changed
 present-made m c (parent t) h = rw (records-made m c t.child) h
 present-made m c (listing i) h = h
 
-present-all : (m : Model) (c : List Change) (l : List Want) → Each (Present m) l → Each (Present (made_all m c)) l
+pub present-all : (m : Model) (c : List Change) (l : List Want) → Each (Present m) l → Each (Present (made_all m c)) l
 unfolding made_all
 present-all m [] l h = h
 present-all m (c ∷ k) l h = present-all (made m c) k l (each l h)
@@ -72,11 +71,6 @@ present-all m (c ∷ k) l h = present-all (made m c) k l (each l h)
     each : (l : List Want) → Each (Present m) l → Each (Present (made m c)) l
     each [] h = tt
     each (v ∷ l) h = (present-made m c v h.0, each l h.1)
-
-wants-due : (m : Model) (l : List Want) → Each (Present m) l → AllDue m (wants_for m l)
-unfolding wants_for
-wants-due m [] h = tt
-wants-due m (v ∷ l) h = due-append m (change_for m v) _ (want-due m v h.0) (wants-due (made_all m (change_for m v)) l (present-all m (change_for m v) l h.1))
 
 -- ---- what the body's lists name is there
 
@@ -139,7 +133,3 @@ module _ (m : Model) where
 
   pub body-wants : (b : ℕ) → body_there m b ≡ true → Each (Present m) (wants_all (meetings m b))
   body-wants b t = wants-present (meetings m b) (body-present b t)
-
-  -- the model takes the changes of a mending whose body is there
-  pub changes-due : (b : ℕ) → body_there m b ≡ true → AllDue m (changes m b)
-  changes-due b t = subst (AllDue m) (sym (asked-by-one m (meetings m b))) (wants-due m (wants_all (meetings m b)) (body-wants b t))

@@ -14,7 +14,8 @@ use Rattle.memory_lookups.specs.declared.BodyFound.TheVariants as Bodies
 use Rattle.memory_lookups.specs.Lookup.{body_answer}
 use Rattle.edit_lists.specs.Answers.{put_entry_words, strike_entry_words, append_number, append_entry_words}
 use Rattle.memory_offices.specs.Sight.{by_office, body_asked}
-use Rattle.memory_offices.specs.Laws.{office-there, office-above, office-alone, answer-there, answer-above, unless-there, unless-above}
+use Rattle.memory_offices.specs.Laws.{office-there, office-above, office-alone}
+use Rattle.memory_offices.proofs.Laws.{answer-there, answer-above, unless-there, unless-above}
 use Rattle.office_bodies.specs.Answers.{entity_for, record_asked, office_body_number, office_body, office_contains, office_entry_number, office_entry, office_put_words, office_strike_words, office_append_number, office_append_words}
 
 module _ (room w : List ℕ) (x : List Float) (o : ℕ) where

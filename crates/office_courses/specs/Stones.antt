@@ -17,7 +17,8 @@ use Rattle.meaning.specs.Refuse.{first_of}
 use Rattle.meaning_list_laws.specs.Tests.{and_both, or-none, then-none, then-zero, then-assoc}
 use Rattle.meaning_list_laws.specs.Lists.{all_none, all_cons, all_append}
 use Rattle.meaning_sheets.specs.Sheets.{six_volume, stone_refusal}
-use Rattle.meaning_sheet_laws.specs.Sizes.{size-sum, stone-taken}
+use Rattle.meaning_sheet_laws.specs.Sizes.{size-sum}
+use Rattle.meaning_sheet_laws.proofs.Sizes.{stone-taken}
 use Rattle.meaning_courses.specs.Courses.{Entry, of_body, of_course, Courses, entries_of, bodies_in, stones_of, some_entry, there, missing, stones_refusal, total_of}
 use Rattle.memory_layout.specs.Layout.{word}
 use Rattle.memory_layout.specs.Decode.{decode}

@@ -10,7 +10,7 @@ use Rattle.inquire_volume.specs.Answers.{volume_number, volume_answer}
 use Rattle.check_report.specs.Calls.{told, check_number, check_answer, check_words, first_answer, fit_answer}
 use Rattle.check_report.specs.declared.FirstFault.TheVariants as Firsts
 use Rattle.memory_offices.specs.Sight.{body_asked}
-use Rattle.memory_offices.specs.Laws.{answer-there, answer-above}
+use Rattle.memory_offices.proofs.Laws.{answer-there, answer-above}
 use Rattle.office_walks.specs.Laws.{handed-there, handed-above}
 use Rattle.station_answers.specs.declared.BoxFound.TheVariants as Boxes
 use Rattle.station_answers.specs.declared.Volume.TheVariants as Volumes

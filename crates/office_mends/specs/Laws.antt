@@ -4,7 +4,8 @@ use Rattle.std.proofs.Math.Path.{sym}
 use Rattle.std.proofs.Common.{ap, ◌∙◌, leb-true, leb-false}
 use Rattle.memory_layout.specs.Readable.{tag_number}
 use Rattle.memory_offices.specs.Sight.{body_asked}
-use Rattle.memory_offices.specs.Laws.{office-there, office-above, unless-there, unless-above}
+use Rattle.memory_offices.specs.Laws.{office-there, office-above}
+use Rattle.memory_offices.proofs.Laws.{unless-there, unless-above}
 use Rattle.mend_body.specs.Laws.{list-long, words_long}
 use Rattle.mend_body.specs.Answers.{mend_number, mend_count, mend_list, mend_words}
 use Rattle.office_mends.specs.Answers.{office_mend_number, office_mend_count, office_mend_list, office_mend_words}

@@ -11,12 +11,14 @@ use Rattle.meaning.specs.Inquire.{solid_sides}
 use Rattle.meaning_list_laws.specs.Tests.{then-zero, then-assoc}
 use Rattle.meaning_sheets.specs.Sheets.{sheet_readable, with_stone, stone_refusal, six_volume, stone_of}
 use Rattle.meaning_sheet_laws.specs.Sizes.{stone-triangles}
-use Rattle.meaning_sheet_laws.specs.Parts.{plus_sum, minus_sum, plus-size, minus-size, sum_is}
+use Rattle.meaning_sheet_laws.specs.Parts.{plus_sum, minus_sum}
+use Rattle.meaning_sheet_laws.proofs.Parts.{plus-size, minus-size, sum_is}
 use Rattle.memory_layout.specs.Decode.{decode}
 use Rattle.memory_layout.specs.Readable.{readable, tag_number}
 use Rattle.memory_writes.specs.Put.{unless_refused}
 use Rattle.memory_offices.specs.Sight.{by_office, body_asked}
-use Rattle.memory_offices.specs.Laws.{office-there, office-above, unless-above}
+use Rattle.memory_offices.specs.Laws.{office-there, office-above}
+use Rattle.memory_offices.proofs.Laws.{unless-above}
 use Rattle.walk_answers.specs.Calls.{reach}
 use Rattle.inquire_stone.specs.declared.Stone.{Stone}
 use Rattle.inquire_stone.specs.Answers.{stone_number, stone_answer}

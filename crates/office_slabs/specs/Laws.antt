@@ -2,7 +2,7 @@
 use Rattle.std.specs.Prelude.{ℕ, ◌<◌, ◌≤◌, ◌≡◌, List, Float}
 use Rattle.memory_layout.specs.Readable.{tag_number}
 use Rattle.memory_offices.specs.Sight.{body_asked}
-use Rattle.memory_offices.specs.Laws.{answer-there, answer-above, unless-there, unless-above}
+use Rattle.memory_offices.proofs.Laws.{answer-there, answer-above, unless-there, unless-above}
 use Rattle.slab_profile.specs.declared.Profile.TheVariants.{Refused}
 use Rattle.slab_profile.specs.Answers.{told, profile_number, profile_answer, profile_list}
 use Rattle.office_slabs.specs.Answers.{office_profile_number, office_profile, office_areas}

@@ -2,7 +2,7 @@
 use Rattle.std.specs.Prelude.{ℕ, ◌<◌, ◌≤◌, ◌≡◌, List, Float}
 use Rattle.memory_layout.specs.Readable.{tag_number}
 use Rattle.memory_offices.specs.Sight.{body_asked}
-use Rattle.memory_offices.specs.Laws.{answer-there, answer-above, unless-there, unless-above}
+use Rattle.memory_offices.proofs.Laws.{answer-there, answer-above, unless-there, unless-above}
 use Rattle.stl_writer.specs.declared.StlLength.TheVariants.{Is, Refused}
 use Rattle.stl_writer.specs.Answers.{length_number, length_answer, write_number, write_answer, written_bytes}
 use Rattle.office_stl.specs.Answers.{office_length_number, office_length, office_write_number, office_write, office_written}

@@ -1,9 +1,8 @@
 -- What `split_line_edge` does to the model that the lent memory holds. Assumes nothing.
-use Rattle.std.specs.Prelude.{ℕ, zero, suc, ◌+◌, ◌≤◌, ◌<◌, ◌≡◌, true, List, length, Float}
+use Rattle.std.specs.Prelude.{ℕ, suc, ◌+◌, ◌≤◌, ◌<◌, ◌≡◌, true, List, length, Float}
 use Rattle.std.proofs.Math.Path.{refl}
-use Rattle.std.proofs.Common.{◌∙◌}
 use Rattle.meaning.specs.Model.{Model, Table}
-use Rattle.meaning.specs.Split.{split_refusal, after_split, where_accepted, model_after}
+use Rattle.meaning.specs.Split.{after_split}
 use Rattle.memory_layout.specs.Names.{SHELLS, LOOPS, EDGES, EDGE_FINS, AT_SHELL_WIRES, AT_LOOP_FINS, AT_EDGE_FINS}
 use Rattle.memory_layout.specs.Layout.{word, words_of, reals_of}
 use Rattle.memory_layout.specs.Decode.{decode}
@@ -11,7 +10,6 @@ use Rattle.memory_layout.specs.Readable.{readable}
 use Rattle.memory_layout.specs.Entries.{list_of}
 use Rattle.memory_writes.specs.Change.{SameTable, SameModel}
 use Rattle.memory_writes.specs.Kept.{readable_of}
-use Rattle.memory_layout.specs.Limits.{limits}
 use Rattle.split_place.specs.SplitNumber.{split_number}
 use Rattle.split_edge.specs.After.{split_words, split_reals}
 use Rattle.split_edge.specs.Rooms.{accepted}
@@ -75,16 +73,3 @@ module _ (room w : List ℕ) (x : List Float) (e : ℕ) (t : Float) where
   pub split-refused : (n : ℕ) → split_number room w x e t ≡ suc n → (split_words room w x e t ≡ w) × (split_reals room w x e t ≡ x)
   unfolding split_words split_reals
   split-refused n z = rw z (refl, refl)
-
-  -- so that a readable memory holds, behind the call, the model that `meaning` says, accepted or refused
-  pub split-model : readable room w x ≡ true → HoldsModel room (split_words room w x e t) (split_reals room w x e t) (model_after (limits room) (decode room w x) e t)
-  unfolding model_after split_number
-  split-model r = go (split_refusal (limits room) (decode room w x) e t) refl
-    where
-      number : split_number room w x e t ≡ split_refusal (limits room) (decode room w x) e t
-      number = rw r
-
-      go : (n : ℕ) → split_refusal (limits room) (decode room w x) e t ≡ n
-          → HoldsModel room (split_words room w x e t) (split_reals room w x e t) (where_accepted n (decode room w x) (after_split (decode room w x) e t))
-      go zero z = split_done (number ∙ z)
-      go (suc n) z = let k = split-refused n (number ∙ z) in rw (k.0, k.1) (record { readable = r; model = same-model (decode room w x) })

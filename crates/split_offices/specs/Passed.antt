@@ -19,7 +19,7 @@ use Rattle.memory_layout.specs.Readable.{readable}
 use Rattle.memory_writes.specs.Change.{SameModel}
 use Rattle.memory_layout.specs.Limits.{limits}
 use Rattle.split_edge.specs.After.{split_words, split_reals, office_split_words, office_split_reals}
-use Rattle.split_effect.specs.Statements.{split-model}
+use Rattle.split_effect.proofs.Statements.{split-model}
 use Rattle.split_sequences.specs.Same.{same-trans, same_in, same-formed}
 use Rattle.split_sequences.specs.Walked.{walks_same}
 use Rattle.split_sequences.specs.Changed.{after_same}

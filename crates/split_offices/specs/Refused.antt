@@ -6,7 +6,7 @@ use Rattle.meaning.specs.Split.{EdgeSplit}
 use Rattle.meaning.specs.Offices.{office_split_refusal}
 use Rattle.meaning_split_laws.specs.Rows.{Step, ◌when◌, Passes, RefusedAt}
 use Rattle.meaning_office_laws.specs.Terms.{office_rows}
-use Rattle.meaning_office_laws.specs.Refused.{refused-where, refused-only, accepted-where, accepted-only}
+use Rattle.meaning_office_laws.proofs.Refused.{refused-where, refused-only, accepted-where, accepted-only}
 use Rattle.memory_layout.specs.Decode.{decode}
 use Rattle.memory_layout.specs.Readable.{readable}
 use Rattle.memory_layout.specs.Limits.{limits}

@@ -18,8 +18,9 @@ use Rattle.meaning_split_laws.specs.Terms.{itself, Restored, OneMore, SameWalks,
 use Rattle.meaning_split_laws.specs.Rows.{Passes, RefusedAt}
 use Rattle.meaning_split_laws.specs.Refusals.{one-row}
 use Rattle.meaning_office_laws.specs.Passed.{passed-after, above-after, all-passed, own-edge, foreign-in, none_has}
-use Rattle.meaning_office_laws.specs.Refused.{other-refused}
-use Rattle.split_effect.specs.Statements.{HoldsModel, same-model, split-model}
+use Rattle.meaning_office_laws.proofs.Refused.{other-refused}
+use Rattle.split_effect.specs.Statements.{HoldsModel, same-model}
+use Rattle.split_effect.proofs.Statements.{split-model}
 use Rattle.split_sequences.specs.Answered.{number-given, number-refused}
 use Rattle.split_sequences.specs.Sequence.{calls_words, calls_reals}
 use Rattle.split_sequences.specs.Statements as Calls

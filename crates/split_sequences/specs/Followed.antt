@@ -12,7 +12,8 @@ use Rattle.split_place.specs.SplitNumber.{split_number}
 use Rattle.split_edge.specs.After.{split_words, split_reals}
 use Rattle.meaning_split_laws.specs.Terms.{split_edges}
 use Rattle.meaning_split_laws.specs.Kept.{split-keeps}
-use Rattle.split_effect.specs.Statements.{HoldsModel, split-model}
+use Rattle.split_effect.specs.Statements.{HoldsModel}
+use Rattle.split_effect.proofs.Statements.{split-model}
 use Rattle.split_sequences.specs.Sequence.{calls_words, calls_reals, calls_edges}
 use Rattle.split_sequences.specs.Same.{same-trans}
 use Rattle.split_sequences.specs.Tested.{refusal-same}

@@ -7,7 +7,7 @@ use Rattle.memory_layout.specs.Readable.{readable}
 use Rattle.memory_layout.specs.Limits.{limits}
 use Rattle.split_place.specs.SplitNumber.{split_number}
 use Rattle.meaning_split_laws.specs.Rows.{Step, ◌when◌, split_rows, never, Passes, Says, RefusedAt}
-use Rattle.meaning_split_laws.specs.Refusals.{refused-where, refused-only, accepted-where, accepted-only}
+use Rattle.meaning_split_laws.proofs.Refusals.{refused-where, refused-only, accepted-where, accepted-only}
 use Rattle.split_sequences.specs.CallRows.{call_rows}
 use Rattle.split_sequences.specs.Followed.{number_read}
 

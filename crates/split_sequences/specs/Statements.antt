@@ -21,8 +21,11 @@ use Rattle.meaning_split_laws.specs.Rows.{Passes, RefusedAt}
 use Rattle.meaning_split_laws.specs.After.{bodies_kept, shells-kept}
 use Rattle.meaning_split_laws.specs.Kept.{split-keeps}
 use Rattle.meaning_split_laws.specs.Refusals.{one-row}
-use Rattle.meaning_split_laws.specs.Statements.{stays-well-formed, empty-report-stays, accepted-split-adds-one, accepted-split-leaves-others, euler-number-stays, version-stays, gives_back, gives-back-any, wire-edge-follows}
-use Rattle.split_effect.specs.Statements.{HoldsModel, same-model, split-model}
+use Rattle.meaning_split_laws.specs.Statements.{stays-well-formed, empty-report-stays, accepted-split-leaves-others, wire-edge-follows}
+use Rattle.meaning_split_laws.proofs.Statements.{accepted-split-adds-one, euler-number-stays, gives_back, gives-back-any}
+use Rattle.meaning_split_laws.proofs.Version.{version-stays}
+use Rattle.split_effect.specs.Statements.{HoldsModel, same-model}
+use Rattle.split_effect.proofs.Statements.{split-model}
 use Rattle.split_sequences.specs.Sequence.{calls_words, calls_reals, calls_edges}
 use Rattle.split_sequences.specs.CallRows.{call_rows}
 use Rattle.split_sequences.specs.Same.{same-formed}

@@ -5,8 +5,8 @@ use Rattle.meaning.specs.Model.{Model, Limits, Table}
 use Rattle.meaning.specs.Faults.{report_of}
 use Rattle.meaning.specs.Formed.{WellFormed, topological, topological_report}
 use Rattle.meaning_isolation.specs.Reached.{regions_met, shells_met, faces_met, loops_met, fins_seen, edges_met, vertices_met, curves_met, surfaces_met, Agree, Alike}
-use Rattle.meaning_isolation.specs.Walked.{faces-refused, face-walk-same, edges-refused, edge-walk-same, vertices-refused, vertex-walk-same}
-use Rattle.meaning_isolation.specs.Reported.{findings-same}
+use Rattle.meaning_isolation.proofs.Walked.{faces-refused, face-walk-same, edges-refused, edge-walk-same, vertices-refused, vertex-walk-same}
+use Rattle.meaning_isolation.proofs.Reported.{findings-same}
 use Rattle.meaning_split_laws.specs.Terms.{SameWalks, euler_number}
 use Rattle.meaning_split_laws.specs.Walked.{faces-given, edges-given, vertices-given}
 use Rattle.memory_writes.specs.Change.{SameTable, SameModel}

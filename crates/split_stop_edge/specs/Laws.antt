@@ -19,8 +19,9 @@ use Rattle.meaning.specs.Faults.{of_edge, of_vertex, no_line}
 use Rattle.meaning_list_laws.specs.Tests.{and_both, then-zero, none-refused, unless-zero}
 use Rattle.meaning_stops.specs.Stops.{this, this_curve, nothing, Row, ◌∶◌, refusal_of, part, first_stop}
 use Rattle.meaning_stops.specs.Splits.{row1, row2, row3, row3-fin, row4, row5, row6, row7, row8, bounds_stops, split_stops}
-use Rattle.meaning_stops.specs.Laws.{stop-number}
-use Rattle.meaning_stops.specs.Numbers.{rows-are-tests, bounds-are-tests}
+use Rattle.meaning_stops.proofs.Laws.{stop-number}
+use Rattle.meaning_stops.specs.Numbers.{bounds-are-tests}
+use Rattle.meaning_stops.proofs.Numbers.{rows-are-tests}
 use Rattle.memory_layout.specs.Layout.{word, words_of}
 use Rattle.memory_layout.specs.Decode.{flag_at, decode}
 use Rattle.memory_layout.specs.Entries.{list_of}

@@ -22,8 +22,8 @@ use Rattle.meaning.specs.Faults.{of_fin, of_edge, of_vertex, no_plane}
 use Rattle.meaning_list_laws.specs.Tests.{or-false, unless-zero}
 use Rattle.meaning_stops.specs.Stops.{this, nothing, Part, part, refusal_of, first_stop}
 use Rattle.meaning_stops.specs.Splits.{row9, row10, row11, row11-fin, row11-fins, split_stops}
-use Rattle.meaning_stops.specs.Laws.{stop-number}
-use Rattle.meaning_stops.specs.Numbers.{rows-are-tests}
+use Rattle.meaning_stops.proofs.Laws.{stop-number}
+use Rattle.meaning_stops.proofs.Numbers.{rows-are-tests}
 use Rattle.memory_layout.specs.Layout.{word, real, words_of}
 use Rattle.memory_layout.specs.Decode.{decode}
 use Rattle.memory_layout.specs.Entries.{list_of}

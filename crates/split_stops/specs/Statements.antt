@@ -7,7 +7,7 @@ use Rattle.geom_lines_planes.specs.Refuse.{◌unless◌, ◌then◌}
 use Rattle.meaning.specs.Offices.{office_split_refusal}
 use Rattle.meaning_stops.specs.Stops.{stop_words}
 use Rattle.meaning_stops.specs.Splits.{split_stop}
-use Rattle.meaning_stops.specs.Statements.{stop-is-the-refusal}
+use Rattle.meaning_stops.proofs.Statements.{stop-is-the-refusal}
 use Rattle.memory_layout.specs.Decode.{decode}
 use Rattle.memory_layout.specs.Readable.{readable}
 use Rattle.memory_layout.specs.Limits.{limits}

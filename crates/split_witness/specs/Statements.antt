@@ -10,7 +10,6 @@ use Rattle.memory_layout.specs.Decode.{decode}
 use Rattle.memory_layout.specs.Limits.{limits}
 use Rattle.station_answers.specs.declared.Split.TheVariants.{Is, Refused}
 use Rattle.split_edge.specs.After.{split_answer, split_words, split_reals}
-use Rattle.meaning_split_laws.specs.Terms.{OneMore}
 use Rattle.meaning_split_laws.specs.Kept.{split-keeps}
 use Rattle.meaning_split_laws.specs.Walked.{has-edge}
 use Rattle.meaning_split_laws.specs.Statements.{well-formed-is-tested}
@@ -19,7 +18,7 @@ use Rattle.split_sequences.specs.Same.{same-formed}
 use Rattle.split_sequences.specs.Walked.{walks_same}
 use Rattle.split_sequences.specs.Tested.{refusal-same}
 use Rattle.split_sequences.specs.Followed.{number_read, followed}
-use Rattle.split_sequences.specs.Statements.{Sound, accepted-call-adds-one}
+use Rattle.split_sequences.specs.Statements.{Sound}
 use Rattle.split_witness.specs.Stone.{stone_room, stone_words, stone_reals, stone-readable, stone-decodes}
 use Rattle.split_witness.specs.Evaluated.{quarter, calls, stone-formed, stone-has-edge, stone-refusals, split-stone-refusal, stone-edges}
 
@@ -49,18 +48,13 @@ stone-is-split = answers quarter 0 (ap (λ (l : List ℕ). get_or l 0 0) stone-r
 pub stone-is-refused : split_answer stone_room stone_words stone_reals 0 (float_of 0) ≡ Refused 1
 stone-is-refused = answers (float_of 0) 1 (ap (λ (l : List ℕ). get_or l 1 0) stone-refusals)
 
-one-body : 0 < (decode stone_room stone_words stone_reals).bodies.used
+pub one-body : 0 < (decode stone_room stone_words stone_reals).bodies.used
 one-body = rw stone-decodes.bodies.used (omega arith)
 
-has-it : has_edge (decode stone_room stone_words stone_reals) 0 0 ≡ true
+pub has-it : has_edge (decode stone_room stone_words stone_reals) 0 0 ≡ true
 has-it =
     let walk = walks_same (decode stone_room stone_words stone_reals) stone stone-decodes 0 (limits stone_room) formed (omega arith) in
     rw (has-edge (limits stone_room) (decode stone_room stone_words stone_reals) stone-sound.formed 0 one-body 0, walk.edges) stone-has-edge
-
--- so that its body gains the edge and the vertex of that answer
-pub stone-gains-one : OneMore (decode stone_room stone_words stone_reals)
-    (decode stone_room (split_words stone_room stone_words stone_reals 0 quarter) (split_reals stone_room stone_words stone_reals 0 quarter)) 0 12 8
-stone-gains-one = accepted-call-adds-one stone_room stone_words stone_reals 0 quarter stone-sound _ stone-is-split 0 one-body has-it
 
 -- behind it there is no more room: the new edge is refused with 8, and of these two calls the first alone is accepted
 pub then-no-room : split_answer stone_room (split_words stone_room stone_words stone_reals 0 quarter) (split_reals stone_room stone_words stone_reals 0 quarter) 12 quarter ≡ Refused 8

@@ -16,8 +16,10 @@ use Rattle.meaning_list_laws.specs.Tests.{and_both, then-zero}
 use Rattle.meaning_isolation.specs.Reached.{Alike}
 use Rattle.meaning_isolation.specs.Laws.{then_same, answered-same, answered-number}
 use Rattle.meaning_isolation.specs.Offices.{own, OthersDiffer}
-use Rattle.meaning_isolation.specs.Asked.{there-for, own-itself, no-such-body, others-alike}
-use Rattle.meaning_isolation.specs.Measured.{sides_in, sides-same, sides-walked, points-same, volume-refused, volume-given}
+use Rattle.meaning_isolation.specs.Asked.{there-for, own-itself, no-such-body}
+use Rattle.meaning_isolation.proofs.Asked.{others-alike}
+use Rattle.meaning_isolation.specs.Measured.{sides_in}
+use Rattle.meaning_isolation.proofs.Measured.{sides-same, sides-walked, points-same, volume-refused, volume-given}
 use Rattle.stl_format.specs.Stl.{polygon_triangles, side_triangles, triangles_of, stl_of, body_stl, narrow_points, narrow_sides, stl_refusal}
 
 -- all that a drawing asks of the sides k in m, and of the sides l in n

@@ -3,7 +3,8 @@ use Rattle.std.proofs.Common.{List, ℕ, map, ◌-◌, ap, ◌∙◌, arith}
 use Rattle.memory_layout.specs.Decode.{decode}
 use Rattle.course_table.specs.Table.{entry_of, courses_in}
 use Rattle.course_tests.specs.Found.{entries_found}
-use Rattle.course_tests.specs.Laws.{no-level, not_there, by_entries, none_found, found_turn, entry-body, entry-course}
+use Rattle.course_tests.specs.Laws.{no-level, not_there, by_entries, none_found, entry-body, entry-course}
+use Rattle.course_tests.proofs.Laws.{found_turn}
 use Rattle.course_tests.proofs.+course_found_entries_found_entry_found.Goals as goal
 
 pub course_found-returns-then-levels-eq0 : goal.course_found-returns-then-levels-eq0

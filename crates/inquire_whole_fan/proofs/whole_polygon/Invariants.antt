@@ -11,7 +11,8 @@ use mir.Syntax.{w64}
 use mir.Val.{to_z}
 use Rattle.float_vectors.specs.declared.vector.Point3.{Point3}
 use Rattle.meaning_sheets.specs.Sheets.{corner, whole_fan}
-use Rattle.meaning_sheet_laws.specs.Sizes.{Small, corner-small}
+use Rattle.meaning_sheet_laws.specs.Sizes.{Small}
+use Rattle.meaning_sheet_laws.proofs.Sizes.{corner-small}
 use Rattle.memory_layout.specs.Decode.{decode}
 use Rattle.inquire_fin_starts.specs.Starts.{start_point}
 use Rattle.inquire_fan.specs.Fan.{origin_p, turned}

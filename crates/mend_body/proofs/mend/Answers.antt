@@ -8,7 +8,8 @@ use lib.ListN.{length, length-replicate}
 use lib.Seq.{length-take-le}
 use Rattle.memory_writes.specs.Kept.{refused-keeps}
 use Rattle.mend_writes.specs.Facts.{Appliable}
-use Rattle.mend_effects.specs.Statements.{as_long, mending-applies}
+use Rattle.mend_effects.specs.Statements.{as_long}
+use Rattle.mend_effects.proofs.Statements.{mending-applies}
 use Rattle.mend_body.specs.Answers.{changes_on, mend_number, mend_words}
 use Rattle.mend_body.specs.Laws.{accepted, list-long, count-in, part}
 use borrow.Author.Rules.{rules}

@@ -11,7 +11,8 @@ use Rattle.memory_layout.specs.Readable.{readable}
 use Rattle.walk_paths.specs.Paths.{face_list}
 use Rattle.walk_paths.specs.Laws.{laid-short, laid-front, sources-front, face-path-short, face-sources}
 use Rattle.walk_answers.specs.Calls.{reach, faces_number, faces_handed}
-use Rattle.walk_answers.specs.Laws.{face-list, faces-refusal, accepted-faces, call-refused, call-written, zeros-on, zeros-same, wrote-along, path-fits}
+use Rattle.walk_answers.specs.Laws.{face-list, faces-refusal, accepted-faces, zeros-on, zeros-same, wrote-along, path-fits}
+use Rattle.walk_answers.specs.Laws.{call-refused, call-written}
 use Rattle.walk_body.proofs.write_faces.Goals as goal
 
 pub returns-then-refused-ne0 : goal.returns-then-refused-ne0

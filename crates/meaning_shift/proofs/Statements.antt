@@ -1,3 +1,4 @@
+-- The theorems on moved stones, and on split ones, that rest on those of specs/ (Moving, Grid, Sides, Splits). Assumes nothing.
 -- Moving a stone must not change its weight (W-214, whose words are quoted), for every model and every body of it. Assumes nothing.
 use Rattle.std.specs.Prelude.{ℕ, ◌≡◌, true, List}
 use Rattle.float_vectors.specs.declared.vector.Point3.{Point3}
@@ -7,9 +8,9 @@ use Rattle.meaning.specs.Walks.{vertex_walk}
 use Rattle.meaning.specs.Split.{Cut, after_all}
 use Rattle.meaning_sheets.specs.Sheets.{Corner, corner, grid_point, six_volume, stone_refusal}
 use Rattle.meaning_shift.specs.Moving.{Movable, placed, Shifted, moved}
-use Rattle.meaning_shift.specs.Grid.{float-shift}
-use Rattle.meaning_shift.specs.Sides as Sides
-use Rattle.meaning_shift.specs.Splits.{splits-keep-movable}
+use Rattle.meaning_shift.proofs.Grid.{float-shift}
+use Rattle.meaning_shift.proofs.Sides as Sides
+use Rattle.meaning_shift.proofs.Splits.{splits-keep-movable}
 
 -- 1. "Shift every vertex of the body by the same grid vector, staying in range. Six times the volume is unchanged": by any whole numbers of sixteenths,
 -- however the floats of the new points are found

@@ -1,9 +1,10 @@
+-- The statements of this crate, which rest on proofs/Laws.antt. Assumes nothing.
 -- "Proved: there are `unchecked` of them". Assumes nothing.
 use Rattle.std.specs.Prelude.{ℕ, ◌≡◌, length}
 use Rattle.meaning.specs.Model.{Model}
 use Rattle.meaning.specs.Faults.{fin_geometry, findings, skipped_of, CheckOptions, report_of}
 use Rattle.meaning_doubts.specs.Doubts.{fin_doubts, doubts}
-use Rattle.meaning_doubts.specs.Laws.{fin-same, doubts-same}
+use Rattle.meaning_doubts.proofs.Laws.{fin-same, doubts-same}
 
 -- of every body, for all options
 pub doubts-are-unchecked : (m : Model) (o : CheckOptions) (b : ℕ) → length (doubts m o b) ≡ (report_of (findings m o b)).unchecked

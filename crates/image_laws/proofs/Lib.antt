@@ -1,0 +1,6 @@
+pub mod Models
+pub mod Numbers
+pub mod Tables
+pub mod Starts
+pub mod Records
+pub mod Statements

@@ -1,0 +1,9 @@
+pub mod Walked
+pub mod Measured
+pub mod Weighed
+pub mod Stones
+pub mod Reported
+pub mod Asked
+pub mod Statements
+pub mod Others
+pub mod TwoOffices

@@ -1,0 +1,4 @@
+pub mod Kept
+pub mod Checked
+pub mod Statements
+pub mod Formed

@@ -1,0 +1,4 @@
+pub mod Refused
+pub mod Alone
+pub mod Statements
+pub mod Shared

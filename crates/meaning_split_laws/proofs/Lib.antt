@@ -1,0 +1,5 @@
+pub mod Refusals
+pub mod Struck
+pub mod Gained
+pub mod Statements
+pub mod Version

@@ -1,0 +1,4 @@
+pub mod Absent
+pub mod TwoTold
+pub mod Statements
+pub mod Blades

@@ -1,0 +1,4 @@
+pub mod All
+pub mod Due
+pub mod Statements
+pub mod SecondRun
