@@ -8,10 +8,9 @@ use Rattle.std.proofs.Math.ListN.{drop}
 use Rattle.std.proofs.lemmas.List.{set_at}
 use Rattle.std.proofs.Math.Seq.{append_snoc, take-length}
 use Rattle.meaning.specs.Faults as Faults
-use Rattle.meaning.specs.Faults.{CheckOptions, kept}
+use Rattle.meaning.specs.Faults.{CheckOptions}
 use Rattle.check_reasons.specs.Log.{class_number, faults_words}
-use Rattle.walk_answers.specs.Calls.{handed, in_front}
-use Rattle.check_report.specs.Calls.{report_on, check_number, check_words}
+use Rattle.check_report.specs.Calls.{check_words}
 use Rattle.check_fault_list.specs.declared.Fault.{Fault}
 use Rattle.check_fault_list.specs.List.{no_fault, told, written}
 
@@ -21,7 +20,7 @@ entry_of f = record { kind = f.kind; class = class_number f.class; id = f.id; re
 
 -- ---- the first k that the numbers tell
 
-first_told : List ℕ → ℕ → List Fault
+pub first_told : List ℕ → ℕ → List Fault
 first_told ns zero = []
 first_told ns (suc k) = first_told ns k ++ (told ns k ∷ [])
 
@@ -30,7 +29,7 @@ unfolding first_told
 first-length ns zero = refl
 first-length ns (suc k) = omega (arith, length-append (first_told ns k) (told ns k ∷ []), first-length ns k)
 
-written-split : (l : List Fault) (ns : List ℕ) (k : ℕ) → k ≤ length l → written l ns k ≡ first_told ns k ++ drop k l
+pub written-split : (l : List Fault) (ns : List ℕ) (k : ℕ) → k ≤ length l → written l ns k ≡ first_told ns k ++ drop k l
 unfolding first_told
 written-split l ns zero h = refl
 written-split l ns (suc k) h =
@@ -64,21 +63,13 @@ map-append : (a b : List Faults.Fault) → map entry_of (a ++ b) ≡ map entry_o
 map-append [] b = refl
 map-append (f ∷ a) b = ap (λ d. entry_of f ∷ d) (map-append a b)
 
-first-words : (l : List Faults.Fault) (rest : List ℕ) (k : ℕ) → k ≤ length l → first_told (faults_words l ++ rest) k ≡ map entry_of (take k l)
+pub first-words : (l : List Faults.Fault) (rest : List ℕ) (k : ℕ) → k ≤ length l → first_told (faults_words l ++ rest) k ≡ map entry_of (take k l)
 unfolding first_told
 first-words l rest zero h = refl
 first-words l rest (suc k) h =
     ap (λ d. d ++ (told (faults_words l ++ rest) k ∷ [])) (first-words l rest k (omega arith))
     ∙ ap (λ f. map entry_of (take k l) ++ (f ∷ [])) (told-words l rest k h)
     ∙ sym (ap (map entry_of) (take-suc l k none h) ∙ map-append (take k l) (get_or l k none ∷ []))
-
--- numbers with the words of the faults l in front fill the first k entries of a list
-entries-told : (list : List Fault) (l : List Faults.Fault) (nums : List ℕ) (k : ℕ) → k ≤ length l → k ≤ length list
-    → written list (in_front (faults_words l) nums) k ≡ map entry_of (take k l) ++ drop k list
-unfolding in_front
-entries-told list l nums k h g =
-    written-split list (faults_words l ++ drop (length (faults_words l)) nums) k g
-    ∙ ap (λ d. d ++ drop k list) (first-words l (drop (length (faults_words l)) nums) k h)
 
 -- ---- as many of the first as fit into both lists
 
@@ -87,7 +78,7 @@ shorter zero d s = absurd (omega arith)
 shorter (suc k) [] s = omega arith
 shorter (suc k) (f ∷ d) s = let rest : length d ≤ k = shorter k d (omega arith) in omega arith
 
-fitting : (l : List Faults.Fault) (n e r : ℕ) → e ≤ n → r ≡ min (length (take n l)) e → take r (take n l) ≡ take e l
+pub fitting : (l : List Faults.Fault) (n e r : ℕ) → e ≤ n → r ≡ min (length (take n l)) e → take r (take n l) ≡ take e l
 fitting l n e r h q = by (leb e (length (take n l))) refl
   where
     by : (b : Bool) → leb e (length (take n l)) ≡ b → take r (take n l) ≡ take e l
@@ -107,17 +98,6 @@ module _ (room w : List ℕ) (x : List Float) (b : ℕ) (o : CheckOptions) (face
   -- how many faults both lists have room for
   abbrev space : ℕ
   space = min (length list) (length nums / 4)
-
-  -- `faults_fill` with the number of faults kept, on the numbers that `check_body` left: the first faults of the report that fit, the entries beyond them unchanged
-  pub filled-after-check : check_number room w x b o faces edges ≡ 0 → r ≡ min (length (kept (length nums / 4) (report_on room w x b o))) space
-      → written list (check_words room w x b o faces edges nums) r ≡ map entry_of (kept space (report_on room w x b o)) ++ drop r list
-  unfolding check_words handed
-  filled-after-check e q =
-      let l : List Faults.Fault = kept (length nums / 4) (report_on room w x b o) in
-      let words : in_front (handed (check_number room w x b o faces edges) (faults_words l)) nums ≡ in_front (faults_words l) nums = ap (λ n. in_front (handed n (faults_words l)) nums) e in
-      ap (λ d. written list d r) words
-      ∙ entries-told list l nums r (omega arith) (omega arith)
-      ∙ ap (λ d. map entry_of d ++ drop r list) (fitting (report_on room w x b o).faults (length nums / 4) space r (omega arith) q)
 
   -- and where it was refused, with 0
   pub unfilled-after-refusal : written list (check_words room w x b o faces edges nums) 0 ≡ list

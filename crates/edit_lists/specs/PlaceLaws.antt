@@ -1,6 +1,6 @@
 -- A list at a place of the words, and the stores that edit it. Assumes nothing.
 use Prim.Native.Nat.{ℕ, suc, ◌+◌, ◌-◌, ◌≤◌, ◌<◌}
-use Rattle.std.proofs.Common.{add-zero, add-one, ◌∙◌, length-set, length-drop, drop_of_length-le, drop-cons, get_or-take}
+use Rattle.std.proofs.Common.{add-zero, add-one, ◌∙◌, length-set, length-drop, drop_of_length-le, drop-cons}
 use native.Mathlib.Omega.{arith}
 use Rattle.std.specs.Prelude.{◌≡◌}
 use Rattle.std.proofs.Math.Path.{sym, ap}
@@ -78,7 +78,7 @@ module _ (w : List ℕ) (at : ℕ) (h : Held w at) where
     pub length-behind : length behind ≡ n - 1 - place
     length-behind = let e : length l ≡ n = held-length w at h in let b = length-drop (suc place) l in omega arith
 
-    moved-entries : (m : ℕ) → m ≤ n - 1 - place → length (n ∷ paste l place behind m) ≡ suc n
+    pub moved-entries : (m : ℕ) → m ≤ n - 1 - place → length (n ∷ paste l place behind m) ≡ suc n
     moved-entries m k =
         let e : length l ≡ n = held-length w at h in
         let b = length-behind in
@@ -119,7 +119,7 @@ module _ (w : List ℕ) (at : ℕ) (h : Held w at) where
     strike-turn m k = ap (set (moved w at place m) (at + 1 + place + m)) (next-read m k) ∙ stored m k ∙ ap (moved w at place) (sym (add-one m))
 
     -- all of them are: the last entry stands twice
-    all_moved : paste l place behind (n - 1 - place) ≡ struck l place ++ (word l (n - 1) ∷ [])
+    pub all_moved : paste l place behind (n - 1 - place) ≡ struck l place ++ (word l (n - 1) ∷ [])
     unfolding struck
     all_moved =
         let e : length l ≡ n = held-length w at h in
@@ -131,7 +131,7 @@ module _ (w : List ℕ) (at : ℕ) (h : Held w at) where
         ∙ ap (λ (r : List ℕ). take place l ++ behind ++ r)
         (drop-cons l (n - 1) 0 (omega arith) ∙ ap (λ (r : List ℕ). word l (n - 1) ∷ r) (drop_of_length-le l {i = suc (n - 1)} (omega arith)))
 
-    struck-length : length (struck l place) ≡ n - 1
+    pub struck-length : length (struck l place) ≡ n - 1
     unfolding struck
     struck-length =
         let e : length l ≡ n = held-length w at h in
@@ -139,21 +139,3 @@ module _ (w : List ℕ) (at : ℕ) (h : Held w at) where
         let t = length-take-le place l (omega arith) in
         let a = length-append (take place l) behind in
         omega arith
-
-    last-stands : word w (at + length ((n - 1) ∷ struck l place)) ≡ word l (n - 1)
-    unfolding list_at
-    last-stands =
-        let e = struck-length in
-        let q : at + suc (length (struck l place)) ≡ suc at + (n - 1) = omega arith in
-        ap (word w) q ∙ sym (get_or-drop (suc at) w (n - 1) 0) ∙ sym (get_or-take n (drop (suc at) w) (n - 1) 0 (omega arith))
-
-    pub strike-end : set (moved w at place (n - 1 - place)) at (n - 1) ≡ with_list at (struck l place) w
-    unfolding moved with_list
-    strike-end =
-        let c = moved-entries (n - 1 - place) (omega arith) in
-        let e = struck-length in
-        ap (λ (j : ℕ). set (over at (n ∷ paste l place behind (n - 1 - place)) w) j (n - 1)) (sym (add-zero at))
-        ∙ set-over at 0 (n ∷ paste l place behind (n - 1 - place)) w (n - 1) (omega arith) (omega (arith, h.whole))
-        ∙ ap (λ (r : List ℕ). over at ((n - 1) ∷ r) w) all_moved
-        ∙ over_last at ((n - 1) ∷ struck l place) w (word l (n - 1)) 0 (omega (arith, h.whole)) last-stands
-        ∙ ap (λ (k : ℕ). over at (k ∷ struck l place) w) (sym e)

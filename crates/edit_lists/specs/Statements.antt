@@ -2,7 +2,7 @@
 -- Assumes nothing.
 use Prim.Native.Nat.{ℕ, suc, ◌+◌, ◌≤◌, ◌<◌}
 use Rattle.std.proofs.Common.{le_trans, arith, sym, ap, ◌∙◌, subst, length-drop, take-append-drop}
-use Rattle.std.specs.Prelude.{◌≡◌, refl, true, take, drop, set, Float}
+use Rattle.std.specs.Prelude.{◌≡◌, true, take, drop, set, Float}
 use mathlib.Core.List.{List, [], ◌∷◌, ◌++◌}
 use Rattle.std.proofs.Math.ListN.{length, length-set, length-append}
 use Rattle.meaning.specs.Edits.{appended}
@@ -19,7 +19,7 @@ use Rattle.memory_writes.specs.Over.{length_over, over-same}
 use Rattle.memory_writes.specs.Change.{SameModel, with_record}
 use Rattle.memory_writes.specs.Kept.{readable_of, model-put, fit-put}
 use Rattle.edit_lists.specs.Place.{struck, with_list}
-use Rattle.edit_lists.specs.Answers.{list_words, put_entry_words, strike_entry_words, append_number, append_entry_words}
+use Rattle.edit_lists.specs.Answers.{list_words, put_entry_words, append_number, append_entry_words}
 use Rattle.edit_lists.specs.Laws.{list_put, append-open}
 use Rattle.edit_lists.specs.Records.{still-ok}
 
@@ -38,7 +38,7 @@ unfolding put_reals reals_of
 reals-same room x k i a =
     over-same (real_at room k i) (word real_strides k) x (le_trans (record-inside 1 real_strides room k i a.table a.slot) a.enough)
 
-relisted : (room w : List ℕ) (x : List Float) (j i : ℕ) (l : List ℕ) → Fit room w x → j < 8 → i < word w (word list_tables j) → length l ≤ word list_limits j
+pub relisted : (room w : List ℕ) (x : List Float) (j i : ℕ) (l : List ℕ) → Fit room w x → j < 8 → i < word w (word list_tables j) → length l ≤ word list_limits j
     → Relisted room w (list_words room w j i l) x j i l
 relisted room w x j i l f h g n =
     let k : ℕ = word list_tables j in
@@ -65,7 +65,7 @@ relisted room w x j i l f h g n =
 
 -- ---- the three calls, where they do not refuse
 
-struck-le : (l : List ℕ) (place : ℕ) → length (struck l place) ≤ length l
+pub struck-le : (l : List ℕ) (place : ℕ) → length (struck l place) ≤ length l
 unfolding struck
 struck-le l place =
     let a = length-append (take place l) (drop (suc place) l) in
@@ -85,16 +85,6 @@ module _ (room w : List ℕ) (x : List Float) (j i : ℕ) where
       let a = listed_le room w j i (lists_of room w x t.fit) t.list t.record-there in
       let b : length (set l place id) ≡ length l = length-set l place id in
       rw z (relisted room w x j i (set l place id) t.fit t.list t.record-there (omega arith))
-
-  pub entry-struck : (place : ℕ) → entry_refusal room w x j i place ≡ 0
-      → Relisted room w (strike_entry_words room w x j i place) x j i (struck (list_of room w j i) place)
-  unfolding strike_entry_words
-  entry-struck place z =
-      let t = entry-standing room w x j i place z in
-      let l : List ℕ = list_of room w j i in
-      let a = listed_le room w j i (lists_of room w x t.fit) t.list t.record-there in
-      let b = struck-le l place in
-      rw z (relisted room w x j i (struck l place) t.fit t.list t.record-there (omega arith))
 
   pub entry-appended : (id : ℕ) → append_number room w x j i ≡ 0
       → Relisted room w (append_entry_words room w x j i id) x j i (appended (list_of room w j i) id)

@@ -1,11 +1,11 @@
 -- Demand 3 over a night (W-202): splits, an image of what they left, its reading into any lent memory of the same capacities, and more splits. Assumes nothing.
 -- (The ids of a well-formed model are small numbers; that the floats are of 64 bits holds of all lent memory.)
 use Rattle.std.specs.Prelude.{ℕ, ◌<◌, ◌≡◌, refl, Bool, true, false, cond, List, [], ◌∷◌, ◌++◌, eqb, Float}
-use Rattle.std.proofs.Common.{sym, ap, ap₂, ◌∙◌}
+use Rattle.std.proofs.Common.{ap, ap₂, ◌∙◌}
 use Rattle.geom_lines_planes.specs.Refuse.{answer}
 use Rattle.meaning.specs.Model.{Model, Limits}
 use Rattle.meaning.specs.Split.{split_refusal, model_after, Cut, after_all}
-use Rattle.meaning.specs.Formed.{WellFormed, topological_report, empty_report}
+use Rattle.meaning.specs.Formed.{WellFormed}
 use Rattle.memory_layout.specs.Names.{EDGES, VERTICES}
 use Rattle.memory_layout.specs.Layout.{word}
 use Rattle.memory_layout.specs.Decode.{decode}
@@ -17,21 +17,19 @@ use Rattle.image_laws.specs.Models.{Machine}
 use Rattle.image_reader.specs.Answers.{read_number, read_words, read_reals}
 use Rattle.image_effects.specs.Fits.{machine-sound, calls-double}
 use Rattle.image_effects.specs.Statements.{image-taken, image-read}
-use Rattle.meaning_split_laws.specs.Terms.{itself, split_edges, Restored, euler_number}
-use Rattle.meaning_split_laws.specs.Statements.{stays-well-formed, empty-report-stays}
-use Rattle.meaning_split_laws.proofs.Statements.{euler-number-stays, gives_back, gives-back-any}
+use Rattle.meaning_split_laws.specs.Terms.{split_edges}
+use Rattle.meaning_split_laws.specs.Statements.{stays-well-formed}
+use Rattle.meaning_split_laws.proofs.Statements.{gives-back-any}
 use Rattle.memory_layout.specs.Limits.{limits}
 use Rattle.split_edge.specs.After.{split_answer}
-use Rattle.split_effect.specs.Statements.{HoldsModel, same-model}
+use Rattle.split_effect.specs.Statements.{HoldsModel}
 use Rattle.station_answers.specs.declared.Split.TheVariants.{Is, Refused}
-use Rattle.split_sequences.specs.Sequence.{calls_words, calls_reals, calls_edges}
-use Rattle.split_sequences.specs.Same.{same-trans, same-formed}
+use Rattle.split_sequences.specs.Sequence.{calls_words, calls_reals}
+use Rattle.split_sequences.specs.Same.{same-trans}
 use Rattle.split_sequences.specs.Tested.{refusal-same}
-use Rattle.split_sequences.specs.Walked.{report-same, walks_same, euler-same}
-use Rattle.split_sequences.specs.Restored.{restored_same}
 use Rattle.split_sequences.specs.Followed.{Followed, number_read, followed}
 use Rattle.split_sequences.specs.Statements.{Sound}
-use Rattle.split_sequences.specs.Statements.{calls-model}
+use Rattle.split_sequences.proofs.Statements.{calls-model}
 use Rattle.split_sequences.proofs.Memory.{memory-stays-well-formed}
 
 -- ---- two rows of splits, one behind the other
@@ -41,7 +39,7 @@ unfolding after_all
 after_both m [] k x = refl
 after_both m (c ∷ l) k x = after_both (model_after x m c.edge c.fraction) l k x
 
-edges-both : (m : Model) (l k : List Cut) (x : Limits) → split_edges x m (l ++ k) ≡ split_edges x m l ++ split_edges x (after_all x m l) k
+pub edges-both : (m : Model) (l k : List Cut) (x : Limits) → split_edges x m (l ++ k) ≡ split_edges x m l ++ split_edges x (after_all x m l) k
 unfolding split_edges after_all
 edges-both m [] k x = refl
 edges-both m (c ∷ l) k x = rw (edges-both (model_after x m c.edge c.fraction) l k x) (first (eqb (split_refusal x m c.edge c.fraction) 0))
@@ -57,7 +55,7 @@ edges-both m (c ∷ l) k x = rw (edges-both (model_after x m c.edge c.fraction) 
     first false = refl
 
 -- a call answers what the model says
-answer-held : (room w : List ℕ) (x : List Float) (m : Model) → HoldsModel room w x m → WellFormed (limits room) m → (e : ℕ) (t : Float)
+pub answer-held : (room w : List ℕ) (x : List Float) (m : Model) → HoldsModel room w x m → WellFormed (limits room) m → (e : ℕ) (t : Float)
     → split_answer room w x e t
     ≡ answer Is Refused (split_refusal (limits room) m e t) (record { original_edge = e; new_edge = m.edges.used; vertex = m.vertices.used })
 unfolding split_answer decode
@@ -107,10 +105,10 @@ module _ (room w : List ℕ) (x : List Float) (l k : List Cut) (s : Sound room w
       image-read room (calls_words room w x l) (calls_reals room w x l) evening-sound.readable evening-fits room v y lent
       (fit_of room (calls_words room w x l) (calls_reals room w x l) evening-sound.readable).sized.counts
 
-  all-formed : (c : List Cut) → WellFormed (limits room) (after_all (limits room) (decode room w x) c)
+  pub all-formed : (c : List Cut) → WellFormed (limits room) (after_all (limits room) (decode room w x) c)
   all-formed c = stays-well-formed (limits room) (decode room w x) c s.formed
 
-  morning : Followed room (morning_words room w x l v y) (morning_reals room w x l v y) (after_all (limits room) (decode room w x) l) k
+  pub morning : Followed room (morning_words room w x l v y) (morning_reals room w x l v y) (after_all (limits room) (decode room w x) l) k
   morning =
       followed room (morning_words room w x l v y) (morning_reals room w x l v y) (after_all (limits room) (decode room w x) l) k morning-holds.readable
       (same-trans _ evening _ morning-holds.model (calls-model room w x l s).model) (all-formed l)
@@ -119,45 +117,8 @@ module _ (room w : List ℕ) (x : List Float) (l k : List Cut) (s : Sound room w
   pub night-keeps-model : HoldsModel room (night_words room w x l v y k) (night_reals room w x l v y k) (after_all (limits room) (decode room w x) (l ++ k))
   night-keeps-model = rw (after_both (decode room w x) l k (limits room)) morning.holds
 
-  -- "After any sequence of splits, accepted or refused, it is still well formed": so the statements of demand 3 (split_sequences/specs/Statements.antt) go on from it
-  pub night-keeps-sound : Sound room (night_words room w x l v y k) (night_reals room w x l v y k)
-  night-keeps-sound =
-      record {
-        readable = night-keeps-model.readable;
-        formed = same-formed (limits room) _ whole night-keeps-model.model (all-formed (l ++ k));
-      }
-
-  -- and the next call answers what it answers without the night
-  pub night-keeps-answers : (e : ℕ) (t : Float)
-      → split_answer room (night_words room w x l v y k) (night_reals room w x l v y k) e t
-      ≡ split_answer room (calls_words room w x (l ++ k)) (calls_reals room w x (l ++ k)) e t
-  night-keeps-answers e t =
-      answer-held room _ _ whole night-keeps-model (all-formed (l ++ k)) e t ∙ sym (answer-held room _ _ whole (calls-model room w x (l ++ k) s) (all-formed (l ++ k)) e t)
-
   abbrev behind : Model
   behind = decode room (night_words room w x l v y k) (night_reals room w x l v y k)
 
-  still-there : (b : ℕ) → b < (decode room w x).bodies.used → b < whole.bodies.used
+  pub still-there : (b : ℕ) → b < (decode room w x).bodies.used → b < whole.bodies.used
   still-there b hb = rw (gives-back-any (limits room) (decode room w x) (l ++ k)).bodies hb
-
-  -- "and a body whose topological report was empty keeps an empty one"
-  pub night-keeps-empty-report : (b : ℕ) → b < (decode room w x).bodies.used → empty_report (topological_report (decode room w x) b) ≡ true
-      → empty_report (topological_report (decode room (night_words room w x l v y k) (night_reals room w x l v y k)) b) ≡ true
-  night-keeps-empty-report b hb r =
-      ap empty_report (report-same behind whole night-keeps-model.model b (still-there b hb))
-      ∙ empty-report-stays (limits room) (decode room w x) (l ++ k) s.formed b hb r
-
-  -- "so vertices minus edges plus faces never changes"
-  pub night-keeps-euler-number : (b : ℕ) → b < (decode room w x).bodies.used
-      → euler_number (decode room (night_words room w x l v y k) (night_reals room w x l v y k)) b ≡ euler_number (decode room w x) b
-  night-keeps-euler-number b hb =
-      euler-same whole behind b (walks_same behind whole night-keeps-model.model b (limits room) (all-formed (l ++ k)) (still-there b hb))
-      ∙ euler-number-stays (limits room) (decode room w x) (l ++ k) s.formed b hb
-
-  -- "Striking out what was added gives back every stored list in its starting order", in the evening and in the morning
-  pub night-gives-back : Restored (decode room w x) (decode room (night_words room w x l v y k) (night_reals room w x l v y k))
-      (calls_edges room w x l ++ calls_edges room (morning_words room w x l v y) (morning_reals room w x l v y) k) itself
-  night-gives-back =
-      rw ((followed room w x (decode room w x) l s.readable (same-model (decode room w x)) s.formed).edges, morning.edges, ← edges-both (decode room w x) l k (limits room))
-      (restored_same (decode room w x) whole behind night-keeps-model.model (split_edges (limits room) (decode room w x) (l ++ k)) itself
-      (gives_back (limits room) (decode room w x) (l ++ k) s.formed))

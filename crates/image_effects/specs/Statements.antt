@@ -154,11 +154,11 @@ module _ (room w : List ℕ) (x : List Float) (b : List ℕ) (a : accepted b ≡
   read-holds : HoldsModel room (words_laid room (records_in b) 10 (version_laid b w)) (reals_laid room (records_in b) 10 x) (model_in b)
   read-holds = record { readable = readable_of room v y fit; model = same-model }
 
-  slots-stay : (k i : ℕ) → k < 10 → count_in (records_in b) k ≤ i → i < word room k
+  pub slots-stay : (k i : ℕ) → k < 10 → count_in (records_in b) k ≤ i → i < word room k
       → (words_of room (words_laid room (records_in b) 10 (version_laid b w)) k i ≡ words_of room w k i) × (reals_of room (reals_laid room (records_in b) 10 x) k i ≡ reals_of room x k i)
   slots-stay k i h u g = (laid.words-stay k i h u g ∙ version-apart k i, laid.reals-stay k i h u g)
 
-  places-stay : (k i j q : ℕ) → k < 10 → i < count_in (records_in b) k → j < word list_counts k
+  pub places-stay : (k i j q : ℕ) → k < 10 → i < count_in (records_in b) k → j < word list_counts k
       → word (get_or list_places_of k []) j + word (words_of room (words_laid room (records_in b) 10 (version_laid b w)) k i) (word (get_or list_places_of k []) j) < q
       → q ≤ word (get_or list_places_of k []) j + word (get_or list_limits_of k []) j
       → word (words_of room (words_laid room (records_in b) 10 (version_laid b w)) k i) q ≡ word (words_of room w k i) q
@@ -180,20 +180,6 @@ module _ (room w : List ℕ) (x : List Float) (b : List ℕ) where
     pub read_done : HoldsModel room (read_words room w x b) (read_reals room w x b) (model_in b)
     unfolding read_words read_reals
     read_done = let t = taken room w x b e in rw e (read-holds room w x b t.image t.lent t.enough)
-
-    -- "The reader replaces the old model untested; slots beyond the new counts stay"
-    pub unused-slots-stay : (k i : ℕ) → k < 10 → count_in (records_in b) k ≤ i → i < word room k
-        → (words_of room (read_words room w x b) k i ≡ words_of room w k i) × (reals_of room (read_reals room w x b) k i ≡ reals_of room x k i)
-    unfolding read_words read_reals
-    unused-slots-stay k i h u g = let t = taken room w x b e in rw e (slots-stay room w x b t.image t.lent t.enough k i h u g)
-
-    -- and so does, in each record that is replaced, every place behind the last entry of its list j
-    pub unused-places-stay : (k i j q : ℕ) → k < 10 → i < count_in (records_in b) k → j < word list_counts k
-        → word (get_or list_places_of k []) j + word (words_of room (read_words room w x b) k i) (word (get_or list_places_of k []) j) < q
-        → q ≤ word (get_or list_places_of k []) j + word (get_or list_limits_of k []) j
-        → word (words_of room (read_words room w x b) k i) q ≡ word (words_of room w k i) q
-    unfolding read_words
-    unused-places-stay k i j q h u g = let t = taken room w x b e in rw e (places-stay room w x b t.image t.lent t.enough k i j q h u g)
 
 -- ---- the image of the model that readable memory holds
 

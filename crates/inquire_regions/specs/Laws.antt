@@ -119,19 +119,13 @@ module _ (room w : List ℕ) (x : List Float) where
   unfolding decode list_of
   sides-list s = refl
 
-  region-shells : (r : ℕ) → joined (sides_of (decode room w x)) (solid_shells room w r) ≡ region_sides (decode room w x) r
+  pub region-shells : (r : ℕ) → joined (sides_of (decode room w x)) (solid_shells room w r) ≡ region_sides (decode room w x) r
   unfolding solid_shells region_sides decode list_of
   region-shells r = by (flag_at (words_of room w 1 r) 1)
     where
       by : (b : Bool) → joined (sides_of (decode room w x)) (cond b (list_of room w 1 r) []) ≡ cond b (joined (sides_of (decode room w x)) (list_of room w 1 r)) []
       by true = refl
       by false = joined-none (sides_of (decode room w x))
-
-  pub regions-turn : (regions shells : List ℕ) (k : ℕ) → k < length regions → shells ≡ solid_shells room w (get_or regions k 0)
-      → joined (region_sides (decode room w x)) (take k regions) ++ joined (sides_of (decode room w x)) shells ≡ joined (region_sides (decode room w x)) (take (k + 1) regions)
-  regions-turn regions shells k h e =
-      ap (λ t. joined (region_sides (decode room w x)) (take k regions) ++ t) (ap (joined (sides_of (decode room w x))) e ∙ region-shells (get_or regions k 0))
-      ∙ sym (ap (joined (region_sides (decode room w x))) (take_more regions k 0 h) ∙ joined_snoc (region_sides (decode room w x)) (take k regions) (get_or regions k 0))
 
 -- ---- a region that is whole
 

@@ -17,7 +17,7 @@ use Rattle.walk_answers.specs.Decoded.{refused_by}
 use Rattle.walk_answers.specs.Laws.{refused-before}
 use Rattle.inquire_regions.specs.declared.Tally.{Tally}
 use Rattle.inquire_regions.specs.Regions.{tally_of}
-use Rattle.inquire_tally.specs.Tallies.{refused_tally, solid_tally, unless_walked, walked, body_tally}
+use Rattle.inquire_tally.specs.Tallies.{refused_tally, solid_tally}
 use Rattle.station_answers.specs.declared.Volume.{Volume}
 use Rattle.station_answers.specs.declared.Volume.TheVariants.{Is, Refused}
 use Rattle.inquire_volume.specs.Answers.{volume_number, volume_answer}
@@ -35,7 +35,7 @@ told-given t n e z = ap (λ k. answer Is Refused k t.volume) (sym z ∙ e)
 
 -- ---- of the body
 
-solid-told : (m : Model) (b : ℕ) → told_volume (solid_tally false m b) ≡ solid_volume m b
+pub solid-told : (m : Model) (b : ℕ) → told_volume (solid_tally false m b) ≡ solid_volume m b
 unfolding solid_tally solid_volume
 solid-told m b = by (is_solid (body m b).kind)
   where
@@ -59,14 +59,14 @@ module _ (room w : List ℕ) (x : List Float) (b : ℕ) (face_marks : List ℕ) 
   abbrev value : Float
   value = sum_volumes (decode room w x) zero_f (solid_sides (decode room w x) b)
 
-  volume-refused : (n : ℕ) → n ≡ refused_by (readable room w x) (reach room 3 face_marks) (require_polyhedral (decode room w x) b) → (n ≡ 0 → ⊥) → Refused n ≡ volume_answer room w x b face_marks
+  pub volume-refused : (n : ℕ) → n ≡ refused_by (readable room w x) (reach room 3 face_marks) (require_polyhedral (decode room w x) b) → (n ≡ 0 → ⊥) → Refused n ≡ volume_answer room w x b face_marks
   unfolding volume_answer volume_number volume_refusal refused_by
   volume-refused n e z =
       let number : n ≡ volume_number room w x b face_marks =
       refused-before (readable room w x) (reach room 3 face_marks) (require_polyhedral (decode room w x) b) n e z (solid_number (decode room w x) b) in
       refused-answer Is Refused n value z ∙ ap (λ k. answer Is Refused k value) number
 
-  volume-answered : (r : Volume) → refused_by (readable room w x) (reach room 3 face_marks) (require_polyhedral (decode room w x) b) ≡ 0 → r ≡ solid_volume (decode room w x) b → r ≡ volume_answer room w x b face_marks
+  pub volume-answered : (r : Volume) → refused_by (readable room w x) (reach room 3 face_marks) (require_polyhedral (decode room w x) b) ≡ 0 → r ≡ solid_volume (decode room w x) b → r ≡ volume_answer room w x b face_marks
   unfolding volume_answer volume_number volume_refusal solid_volume
   volume-answered r e h = h ∙ ap (λ k. answer Is Refused k value) (sym number)
     where
@@ -77,11 +77,3 @@ module _ (room w : List ℕ) (x : List Float) (b : ℕ) (face_marks : List ℕ) 
 
       number : (9 unless readable room w x then 8 unless reach room 3 face_marks then (require_polyhedral (decode room w x) b then solid_number (decode room w x) b)) ≡ solid_number (decode room w x) b
       number = passed (readable room w x) (reach room 3 face_marks) (require_polyhedral (decode room w x) b) (unfold refused_by in e)
-
-  pub volume-told : told_volume (body_tally false room w x b face_marks) ≡ volume_answer room w x b face_marks
-  unfolding body_tally
-  volume-told = go (walked false room w x b face_marks) refl
-    where
-      go : (n : ℕ) → walked false room w x b face_marks ≡ n → told_volume (unless_walked n (solid_tally false (decode room w x) b)) ≡ volume_answer room w x b face_marks
-      go zero e = volume-answered (told_volume (solid_tally false (decode room w x) b)) e (solid-told (decode room w x) b)
-      go (suc n) e = let told : told_volume (refused_tally (suc n)) ≡ Refused (suc n) = unfold told_volume in refl in told ∙ volume-refused (suc n) (sym e) (λ q. omega arith)

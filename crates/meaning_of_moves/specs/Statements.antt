@@ -16,9 +16,9 @@ use Rattle.memory_layout.specs.Decode.{decode}
 use Rattle.memory_layout.specs.Readable.{readable}
 use Rattle.memory_layout.specs.Limits.{limits}
 use Rattle.split_sequences.specs.Sequence.{calls_words, calls_reals}
-use Rattle.split_sequences.specs.Statements.{calls-model}
+use Rattle.split_sequences.proofs.Statements.{calls-model}
 use Rattle.split_offices.specs.Calls.{office_calls_words, office_calls_reals, heard}
-use Rattle.split_offices.specs.Statements.{memory-as-without-offices}
+use Rattle.split_offices.proofs.Statements.{memory-as-without-offices}
 use Rattle.walk_answers.specs.Calls.{reach}
 use Rattle.meaning_of_moves.specs.Moves.{Lent, lent_model, Moved, SameTake, body_set, body_numbers}
 use Rattle.meaning_of_moves.specs.Sets as Sets

@@ -2,10 +2,10 @@
 -- accepted or refused: the statements of `split_sequences`, in its order and words. Assumes nothing.
 use Rattle.std.specs.Prelude.{ℕ, suc, ◌<◌, ◌↔◌, ◌≡◌, refl, Bool, true, false, List, [], ◌∷◌, ◌++◌, leb, get_or, Float}
 use Rattle.std.proofs.Common.{sym, ◌∙◌}
-use Rattle.meaning.specs.Model.{Model, body, shell}
+use Rattle.meaning.specs.Model.{Model, shell}
 use Rattle.meaning.specs.Split.{test1, Cut}
-use Rattle.meaning.specs.Formed.{topological_report, empty_report, has_edge}
-use Rattle.meaning.specs.Offices.{foreign, edge_for, office_model_after, OfficeCut, office_after_all}
+use Rattle.meaning.specs.Formed.{has_edge}
+use Rattle.meaning.specs.Offices.{foreign, edge_for, office_model_after, OfficeCut}
 use Rattle.memory_layout.specs.Decode.{decode}
 use Rattle.memory_layout.specs.Readable.{readable}
 use Rattle.memory_layout.specs.Limits.{limits}
@@ -14,20 +14,18 @@ use Rattle.station_answers.specs.declared.EdgeSplit.{EdgeSplit}
 use Rattle.station_answers.specs.declared.Split.TheVariants.{Is, Refused}
 use Rattle.split_edge.specs.After.{split_answer, split_words, split_reals, office_split_answer, office_split_words, office_split_reals}
 use Rattle.split_edge.specs.Rooms.{office-accepted}
-use Rattle.meaning_split_laws.specs.Terms.{itself, Restored, OneMore, SameWalks, euler_number}
+use Rattle.meaning_split_laws.specs.Terms.{OneMore, SameWalks}
 use Rattle.meaning_split_laws.specs.Rows.{Passes, RefusedAt}
 use Rattle.meaning_split_laws.specs.Refusals.{one-row}
-use Rattle.meaning_office_laws.specs.Passed.{passed-after, above-after, all-passed, own-edge, foreign-in, none_has}
+use Rattle.meaning_office_laws.specs.Passed.{passed-after, above-after, own-edge, foreign-in, none_has}
 use Rattle.meaning_office_laws.proofs.Refused.{other-refused}
 use Rattle.split_effect.specs.Statements.{HoldsModel, same-model}
 use Rattle.split_effect.proofs.Statements.{split-model}
 use Rattle.split_sequences.specs.Answered.{number-given, number-refused}
-use Rattle.split_sequences.specs.Sequence.{calls_words, calls_reals}
 use Rattle.split_sequences.specs.Statements as Calls
 use Rattle.split_sequences.specs.Statements.{Sound}
-use Rattle.split_offices.specs.Calls.{office_calls_words, office_calls_reals, office_calls_edges, heard, office_call_rows}
-use Rattle.split_offices.specs.Heard.{heard-words, heard-reals, above-number, above-refused, refused-left, calls-heard}
-use Rattle.split_offices.specs.Passed.{heard-passed}
+use Rattle.split_offices.specs.Calls.{heard, office_call_rows}
+use Rattle.split_offices.specs.Heard.{heard-words, heard-reals, above-number, above-refused, refused-left}
 use Rattle.split_offices.specs.Refused.{number_read, refused-there, there-refused, accepted-there, there-accepted}
 
 -- one call leaves a readable memory that holds the model that `meaning` says, accepted or refused, whatever was in it
@@ -45,48 +43,9 @@ call-model room w x o e t r = by (leb o 1) refl
         rw (s.0, s.1, above-after (limits room) (decode room w x) o e t h) (record { readable = r; model = same-model (decode room w x) })
 
 module _ (room w : List ℕ) (x : List Float) (l : List OfficeCut) where
-  -- the memory behind the calls is that behind calls without offices, those that were heard
-  pub memory-as-without-offices : (office_calls_words room w x l ≡ calls_words room w x (heard room w x l)) × (office_calls_reals room w x l ≡ calls_reals room w x (heard room w x l))
-  memory-as-without-offices = let h = calls-heard room w x l in (h.words, h.reals)
-
   module _ (s : Sound room w x) where
     abbrev without : List Cut
     without = heard room w x l
-
-    -- it holds the model of `meaning_office_laws`' statements, record by record
-    pub calls-model : HoldsModel room (office_calls_words room w x l) (office_calls_reals room w x l) (office_after_all (limits room) (decode room w x) l)
-    calls-model =
-        let h = calls-heard room w x l in
-        let same = heard-passed room w x (decode room w x) (record { readable = s.readable; model = same-model (decode room w x); formed = s.formed }) l in
-        rw (h.words, h.reals, all-passed (limits room) (decode room w x) l, ← same) (Calls.calls-model room w x without s)
-
-    -- 1. "After any sequence of splits, accepted or refused, it is still well formed"
-    pub memory-stays-well-formed : Sound room (office_calls_words room w x l) (office_calls_reals room w x l)
-    memory-stays-well-formed = let h = calls-heard room w x l in rw (h.words, h.reals) (Calls.memory-stays-well-formed room w x without s)
-
-    -- 2. "and a body whose topological report was empty keeps an empty one"
-    pub memory-keeps-empty-report : (b : ℕ) → b < (decode room w x).bodies.used → empty_report (topological_report (decode room w x) b) ≡ true
-        → empty_report (topological_report (decode room (office_calls_words room w x l) (office_calls_reals room w x l)) b) ≡ true
-    memory-keeps-empty-report b hb r = let h = calls-heard room w x l in rw (h.words, h.reals) (Calls.memory-keeps-empty-report room w x without s b hb r)
-
-    -- 3. "so vertices minus edges plus faces never changes"
-    pub memory-keeps-euler-number : (b : ℕ) → b < (decode room w x).bodies.used
-        → euler_number (decode room (office_calls_words room w x l) (office_calls_reals room w x l)) b ≡ euler_number (decode room w x) b
-    memory-keeps-euler-number b hb = let h = calls-heard room w x l in rw (h.words, h.reals) (Calls.memory-keeps-euler-number room w x without s b hb)
-
-    -- (W-211) "A model names its version and keeps it through splits"
-    pub memory-keeps-version : (decode room (office_calls_words room w x l) (office_calls_reals room w x l)).version ≡ (decode room w x).version
-    memory-keeps-version = let h = calls-heard room w x l in rw (h.words, h.reals) (Calls.memory-keeps-version room w x without s)
-
-    -- 4. "Striking out what was added gives back every stored list in its starting order", and every other field of every old record, a body's office among them, is as it was but for
-    -- the end of an edge that was split (`Restored`: meaning_split_laws/specs/Terms.antt)
-    pub memory-gives-back : Restored (decode room w x) (decode room (office_calls_words room w x l) (office_calls_reals room w x l)) (office_calls_edges room w x l) itself
-    memory-gives-back = let h = calls-heard room w x l in rw (h.words, h.reals, h.edges) (Calls.memory-gives-back room w x without s)
-
-    -- "Each body carries an office number", and keeps it
-    pub memory-keeps-offices : (b : ℕ) → b < (decode room w x).bodies.used
-        → (body (decode room (office_calls_words room w x l) (office_calls_reals room w x l)) b).office ≡ (body (decode room w x) b).office
-    memory-keeps-offices = memory-gives-back.body-office
 
 -- an accepted call
 module _ (room w : List ℕ) (x : List Float) (o e : ℕ) (t : Float) (s : Sound room w x) (r : EdgeSplit) (a : office_split_answer room w x o e t ≡ Is r) where

@@ -18,7 +18,7 @@ use Rattle.inquire_sides.specs.Sides.{side_number}
 use Rattle.inquire_sides.specs.Laws.{side-number}
 use Rattle.inquire_regions.specs.Regions.{region_sides, solid_shells}
 use Rattle.inquire_regions.specs.Laws.{faces-turn, shells-turn, sides-list}
-use Rattle.inquire_regions.specs.Laws.{regions-turn}
+use Rattle.inquire_regions.proofs.Laws.{regions-turn}
 
 -- ---- both parts
 

@@ -1,35 +1,35 @@
 -- The paths of a body give the walks of the model that the memory holds. Assumes nothing.
-use Prim.Native.Nat.{ℕ, zero, suc, ◌+◌, ◌*◌, ◌≤◌, ◌<◌}
-use Rattle.std.proofs.Common.{arith, ◌∙◌, subst, take_at, le-leb, leb-true}
-use Rattle.std.specs.Prelude.{◌≡◌, Bool, cond, not, ◌&&◌, eqb, length, get_or, take, drop, replicate, Float}
+use Prim.Native.Nat.{ℕ, zero, suc, ◌≤◌, ◌<◌}
+use Rattle.std.proofs.Common.{arith, ◌∙◌, subst, take_at, le-leb}
+use Rattle.std.specs.Prelude.{◌≡◌, Bool, cond, ◌&&◌, eqb, length, take, drop, replicate, Float}
 use Rattle.std.proofs.Math.Path.{refl, sym, ap}
 use Rattle.std.proofs.Math.Bool.{true, false}
-use mathlib.Core.List.{List, [], ◌∷◌, ◌++◌, map, append-nil, append_assoc}
-use Rattle.std.proofs.Math.Option.{Option, none, some}
+use mathlib.Core.List.{List, [], ◌∷◌, ◌++◌, map}
+use Rattle.std.proofs.Math.Option.{none, some}
 use Rattle.std.proofs.Math.Dec.{leb, ltb}
 use Rattle.std.proofs.lemmas.List.{length-replicate}
-use Rattle.std.proofs.lemmas.Bool.{lt-leb, not-true, not-false}
+use Rattle.std.proofs.lemmas.Bool.{lt-leb}
 use Rattle.geom_lines_planes.specs.Refuse.{◌unless◌, ◌then◌}
-use Rattle.meaning.specs.Lists.{all, member, count, joined, firsts, listed}
-use Rattle.meaning.specs.Model.{Model, has, shell, edge}
+use Rattle.meaning.specs.Lists.{all, count, joined, firsts, listed}
+use Rattle.meaning.specs.Model.{has, shell, edge}
 use Rattle.meaning.specs.Walks.{shells_of, face_edges, edge_vertices, face_walk, faces_refusal, face_followed, edge_walk, edges_refusal, vertex_walk, vertices_refusal}
-use Rattle.meaning_list_laws.specs.Tests.{and_both, and_assoc, both_ways}
-use Rattle.meaning_list_laws.specs.Lists.{all-at, all_both, all-counted, all_firsts, member-firsts, member-counted, count-present, joined-append, joined_same, all_none}
+use Rattle.meaning_list_laws.specs.Tests.{and_both, both_ways}
+use Rattle.meaning_list_laws.specs.Lists.{all-at, all_both, all-counted, all_firsts, member-firsts, member-counted, count-present, joined-append, joined_same}
 use Rattle.memory_layout.specs.Layout.{word, words_of}
-use Rattle.memory_layout.specs.Decode.{list_at, decode}
-use Rattle.memory_layout.specs.Entries.{list_tables, list_of}
+use Rattle.memory_layout.specs.Decode.{decode}
+use Rattle.memory_layout.specs.Entries.{list_of}
 use Rattle.memory_layout.specs.Readable.{readable}
 use Rattle.memory_layout.specs.Fit.{Lists}
 use Rattle.memory_layout.specs.Laws.{fit_of, lists_of}
 use Rattle.walk_marks.specs.Marks.{Marked, puts}
 use Rattle.walk_marks.specs.Laws.{marked-none, puts-front, puts-length}
-use Rattle.walk_sources.specs.Sources.{fin_edge, end_of, ends_in, part_in, part_of, sourced, followed}
+use Rattle.walk_sources.specs.Sources.{fin_edge, part_in, part_of, sourced, followed}
 use Rattle.walk_sources.specs.Laws.{source-list, source-record}
 use Rattle.walk_visits.specs.Visits.{ids_of, Visited}
 use Rattle.walk_paths.specs.Paths.{shell_list, face_path, face_list, loop_list, edge_path, edge_list, vertex_path, body_followed, faces_there, loops_followed, edges_there, Shelled, Looped, Edged}
 use Rattle.walk_paths.specs.Laws.{shelled-of, faced-of, looped-of, edged_of}
 use Rattle.walk_answers.specs.Calls.{numbered, handed, in_front}
-use Rattle.walk_answers.specs.Decoded.{refused_by, Wrote, Called}
+use Rattle.walk_answers.specs.Decoded.{refused_by, Wrote}
 
 -- ---- lists of lists
 
@@ -212,7 +212,7 @@ module _ (tables marks : Bool) (followed : ℕ) where
 
   -- ---- the call
 
-  numbered-then : (walk : List ℕ) (space : ℕ) → numbered tables marks followed walk space ≡ (refused_by tables marks followed then (8 unless leb (length walk) space))
+  pub numbered-then : (walk : List ℕ) (space : ℕ) → numbered tables marks followed walk space ≡ (refused_by tables marks followed then (8 unless leb (length walk) space))
   unfolding refused_by
   numbered-then walk space = by tables marks followed (8 unless leb (length walk) space)
     where
@@ -220,26 +220,6 @@ module _ (tables marks : Bool) (followed : ℕ) where
       by false b f more = refl
       by true false f more = refl
       by true true f more = refl
-
-  pub call-refused : (walk out : List ℕ) (refused space : ℕ) → refused ≡ refused_by tables marks followed → (refused ≡ 0 → ⊥) → Called (numbered tables marks followed walk space) walk out out refused 0
-  call-refused walk out zero space e n = absurd (n refl)
-  call-refused walk out (suc k) space e n =
-      subst (λ r. Called r walk out out (suc k) 0) (sym (numbered-then walk space ∙ ap (λ r. r then (8 unless leb (length walk) space)) (sym e)))
-      (unfold handed in_front in record { count = refl; list = refl; code = refl })
-
-  pub call-written : (ids walk out₀ out : List ℕ) (refused code n : ℕ) → refused ≡ refused_by tables marks followed → refused ≡ 0 → walk ≡ ids → Wrote ids out₀ out code n
-      → Called (numbered tables marks followed walk (length out₀)) walk out₀ out code n
-  call-written ids walk out₀ out refused code n e z same s =
-      let number : code ≡ numbered tables marks followed walk (length out₀) =
-      s.number
-      ∙ ap (λ l. 8 unless leb (length l) (length out₀)) (sym same)
-      ∙ sym (numbered-then walk (length out₀) ∙ ap (λ r. r then (8 unless leb (length walk) (length out₀))) (sym e ∙ z)) in
-      subst (λ r. Called r walk out₀ out code n) number
-      (record {
-        count = s.count ∙ ap (λ l. length (handed code l)) (sym same);
-        list = s.list ∙ ap (λ l. in_front (handed code l) out₀) (sym same);
-        code = refl;
-      })
 
 -- ---- what an accepted walk may rely on
 

@@ -10,7 +10,8 @@ use Rattle.walk_marks.specs.Laws.{all-nth}
 use Rattle.memory_layout.specs.Decode.{decode}
 use Rattle.memory_layout.specs.Laws.{lists_of}
 use Rattle.inquire_regions.specs.Regions.{tally_of, region_sides, region_whole}
-use Rattle.inquire_regions.specs.Laws.{regions-turn, region-there, shells-there, shells-whole}
+use Rattle.inquire_regions.specs.Laws.{region-there, shells-there, shells-whole}
+use Rattle.inquire_regions.proofs.Laws.{regions-turn}
 use Rattle.inquire_regions.proofs.regions_tally.Goals as goal
 
 pub loop-k-init : goal.loop-k-init

@@ -1,7 +1,7 @@
 -- `inquire_volume::body_volume` meets its contract. Assumes nothing.
 use mathlib.Core.Path.{◌∙◌, ap}
 use Rattle.inquire_volume.specs.Told.{told_volume}
-use Rattle.inquire_volume.specs.Laws.{volume-told}
+use Rattle.inquire_volume.proofs.Laws.{volume-told}
 use borrow.Author.Rules.{rules}
 use Rattle.inquire_volume.proofs.body_volume.Goals as goal
 

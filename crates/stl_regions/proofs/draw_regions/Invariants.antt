@@ -13,7 +13,7 @@ use Rattle.memory_layout.specs.Decode.{decode}
 use Rattle.memory_layout.specs.Laws.{lists_of}
 use Rattle.inquire_regions.specs.Regions.{region_sides, region_whole}
 use Rattle.inquire_regions.specs.Laws.{region-there, shells-there, shells-whole}
-use Rattle.inquire_regions.specs.Laws.{regions-turn}
+use Rattle.inquire_regions.proofs.Laws.{regions-turn}
 use Rattle.stl_fan.specs.Pens.{Drawn}
 use Rattle.stl_fan.specs.Laws.{drawn-none, drawn-more}
 use Rattle.stl_regions.specs.Laws.{region-none, solid-few}

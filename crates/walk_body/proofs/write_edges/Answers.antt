@@ -11,7 +11,7 @@ use Rattle.walk_paths.specs.Paths.{edge_list}
 use Rattle.walk_paths.specs.Laws.{laid-short, laid-front, sources-front, edge-path-short, edge-sources}
 use Rattle.walk_answers.specs.Calls.{reach, edges_number, edges_handed}
 use Rattle.walk_answers.specs.Laws.{edge-list, edges-refusal, accepted-edges, zeros-on, zeros-same, wrote-along, path-fits, marked-zeros}
-use Rattle.walk_answers.specs.Laws.{call-refused, call-written}
+use Rattle.walk_answers.proofs.Laws.{call-refused, call-written}
 use Rattle.walk_body.proofs.write_edges.Goals as goal
 
 pub edges_refusal-refused-requires : goal.edges_refusal-refused-requires

@@ -12,7 +12,7 @@ use Rattle.walk_paths.specs.Paths.{face_list}
 use Rattle.walk_paths.specs.Laws.{laid-short, laid-front, sources-front, face-path-short, face-sources}
 use Rattle.walk_answers.specs.Calls.{reach, faces_number, faces_handed}
 use Rattle.walk_answers.specs.Laws.{face-list, faces-refusal, accepted-faces, zeros-on, zeros-same, wrote-along, path-fits}
-use Rattle.walk_answers.specs.Laws.{call-refused, call-written}
+use Rattle.walk_answers.proofs.Laws.{call-refused, call-written}
 use Rattle.walk_body.proofs.write_faces.Goals as goal
 
 pub returns-then-refused-ne0 : goal.returns-then-refused-ne0

@@ -12,7 +12,7 @@ use Rattle.memory_layout.specs.Readable.{readable}
 use Rattle.walk_paths.specs.Laws.{laid-short, laid-front, sources-front, vertex-path-short, vertex-sources}
 use Rattle.walk_answers.specs.Calls.{reach, vertices_number, vertices_handed}
 use Rattle.walk_answers.specs.Laws.{vertex-list, vertices-refusal, accepted-vertices, zeros-on, zeros-same, wrote-along, path-fits, marked-zeros}
-use Rattle.walk_answers.specs.Laws.{call-refused, call-written}
+use Rattle.walk_answers.proofs.Laws.{call-refused, call-written}
 use Rattle.walk_body.proofs.write_vertices.Goals as goal
 
 pub vertices_refusal-refused-requires : goal.vertices_refusal-refused-requires

@@ -5,7 +5,8 @@ use mathlib.Core.Path.{◌≡◌, refl, ap, ◌∙◌}
 use mathlib.Core.List.{List}
 use lib.ListN.{length, set, length-set}
 use Rattle.memory_layout.specs.Layout.{word}
-use Rattle.edit_lists.specs.PlaceLaws.{moved, strike-none, strike-turn, strike-end}
+use Rattle.edit_lists.specs.PlaceLaws.{moved, strike-none, strike-turn}
+use Rattle.edit_lists.proofs.PlaceLaws.{strike-end}
 use Rattle.edit_lists.proofs.places.strike_at.Given as goal
 
 abbrev pub invariant-loop-m : goal.invariant-loop-m

@@ -1,0 +1,2 @@
+pub mod Night
+pub mod Statements
