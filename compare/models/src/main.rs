@@ -18,15 +18,13 @@ use models::random::Random;
 use models::{Made, Sort, either, fraction, made};
 
 const HEAD: &str = "-- Models and the Rust's answers, written by compare/models.
-use mathlib.Core.Path.{_≡_, refl}
-use mathlib.Core.Bool.{true, false}
-use mathlib.Core.List.{List, [], _∷_}
-use mathlib.Core.Option.{none, some}
-use Rattle·geom_lines_planes.specs.declared.tolerance.Tolerance.the-variants.{Session}
-use Rattle·geom_lines_planes.specs.declared.tolerance.Version.the-variants.{First, Second}
-use Rattle·meaning·specs.specs.Model.{Model, office-0, office-1, acorn, wire, sheet, solid, general, positive, negative}
-use Rattle·meaning·specs.specs.Computing.{computing}
-use Rattle·meaning·specs.specs.Shown.{own, at, bodyR, regionR, shellR, faceR, loopR, finR, edgeR, vertexR, lineR, planeR, otherR, modelR, tables, faces, edges, vertices, ends, box, volume, report, bounds, split, behind, edgesFor, splitFor, behindFor}
+use Rattle.std.specs.Prelude.{◌≡◌, refl, true, false, [], ◌∷◌}
+use Rattle.std.proofs.Math.Option.{none, some}
+use Rattle.geom_lines_planes.specs.declared.tolerance.Tolerance.TheVariants.{Session}
+use Rattle.geom_lines_planes.specs.declared.tolerance.Version.TheVariants.{First, Second}
+use Rattle.meaning.specs.Model.{Model, office-0, office-1, acorn, wire, sheet, solid, general, positive, negative}
+use Rattle.meaning.specs.Computing.{computing}
+use Rattle.meaning.specs.Shown.{own, at, body_r, region_r, shell_r, face_r, loop_r, fin_r, edge_r, vertex_r, line_r, plane_r, other_r, model_r, tables, faces, edges, vertices, ends, box, volume, report, bounds, split, behind, edges_for, split_for, behind_for}
 ";
 
 fn numbers(list: &[u64]) -> String {
@@ -181,7 +179,7 @@ impl Writer {
             if seen != body {
                 self.counts.add("offices", "a body of the other's");
             }
-            rows.push((format!("edgesFor {name} {office} {body}"), found.numbers));
+            rows.push((format!("edges_for {name} {office} {body}"), found.numbers));
         }
         self.answers(name, "office", &rows);
     }
@@ -257,7 +255,7 @@ impl Writer {
             let by_office = format!("{name} {office} {edge} 0x{:x}", bits(fraction));
             let rows = [
                 row.clone(),
-                (format!("splitFor {by_office}"), found.numbers),
+                (format!("split_for {by_office}"), found.numbers),
             ];
             self.answers(name, &format!("split-{number}"), &rows);
             let behind = original::read(&after, &self.names).of(&plain.offices());
@@ -275,7 +273,7 @@ impl Writer {
             let what = format!("behind-{number}");
             // What the office may do leaves the same.
             let call = if office < 2 && seen == edge {
-                format!("behindFor {by_office}")
+                format!("behind_for {by_office}")
             } else {
                 format!("behind {call}")
             };

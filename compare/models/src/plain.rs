@@ -101,7 +101,7 @@ pub struct Plain {
     pub surfaces: Vec<Carrier>,
 }
 
-/// The bits of a float. Every NaN counts as the same, and has the bits that lib.Ieee's `toBits` gives.
+/// The bits of a float. Every NaN counts as the same, and has the bits that `to_bits` of Float.Ieee gives.
 pub fn bits(x: f64) -> u64 {
     if x.is_nan() {
         0x7ff8_0000_0000_0000
@@ -211,9 +211,9 @@ fn own(tolerance: Option<f64>) -> String {
 
 fn carrier(carrier: &Carrier) -> String {
     match carrier {
-        Carrier::Line(o, d) => format!("lineR (at {}) {}", three(*o), three(*d)),
-        Carrier::Plane(o, n) => format!("planeR (at {}) {}", three(*o), three(*n)),
-        Carrier::Other => "otherR".into(),
+        Carrier::Line(o, d) => format!("line_r (at {}) {}", three(*o), three(*d)),
+        Carrier::Plane(o, n) => format!("plane_r (at {}) {}", three(*o), three(*n)),
+        Carrier::Other => "other_r".into(),
     }
 }
 
@@ -242,32 +242,32 @@ impl Kind {
 impl Plain {
     pub fn term(&self) -> String {
         [
-            format!("modelR {:?} {}", self.version, float(self.precision)),
+            format!("model_r {:?} {}", self.version, float(self.precision)),
             table(&self.bodies, |r| {
                 let kind = r.kind.name();
-                format!("bodyR {kind} office-{} {}", r.office, list(&r.regions))
+                format!("body_r {kind} office-{} {}", r.office, list(&r.regions))
             }),
             table(&self.regions, |r| {
-                format!("regionR {} {} {}", r.body, r.solid, list(&r.shells))
+                format!("region_r {} {} {}", r.body, r.solid, list(&r.shells))
             }),
             table(&self.shells, |r| {
                 let [faces, wires, acorns] = [&r.faces, &r.wire_edges, &r.acorn_vertices].map(list);
-                format!("shellR {} {faces} {wires} {acorns}", r.region)
+                format!("shell_r {} {faces} {wires} {acorns}", r.region)
             }),
             table(&self.faces, |r| {
                 let [front, back, surface] = [r.front, r.back, r.surface].map(option);
                 let loops = list(&r.loops);
                 format!(
-                    "faceR {front} {back} {loops} {surface} {}",
+                    "face_r {front} {back} {loops} {surface} {}",
                     sense(r.positive)
                 )
             }),
             table(&self.loops, |r| {
-                format!("loopR {} {}", r.face, list(&r.fins))
+                format!("loop_r {} {}", r.face, list(&r.fins))
             }),
             table(&self.fins, |r| {
                 format!(
-                    "finR {} {} {} {}",
+                    "fin_r {} {} {} {}",
                     r.owner,
                     r.edge,
                     sense(r.positive),
@@ -277,10 +277,10 @@ impl Plain {
             table(&self.edges, |r| {
                 let [start, end, curve] = [r.start, r.end, r.curve].map(option);
                 let fins = list(&r.fins);
-                format!("edgeR {fins} {start} {end} {curve} {}", own(r.tolerance))
+                format!("edge_r {fins} {start} {end} {curve} {}", own(r.tolerance))
             }),
             table(&self.vertices, |r| {
-                format!("vertexR (at {}) {}", three(r.point), own(r.tolerance))
+                format!("vertex_r (at {}) {}", three(r.point), own(r.tolerance))
             }),
             table(&self.curves, carrier),
             table(&self.surfaces, carrier),

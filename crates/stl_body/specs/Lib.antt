@@ -1,12 +1,9 @@
 pub mod Read
 pub mod Reading
 pub mod Evaluated
+pub mod Flat
 pub mod Laws
 pub mod Meshes
-pub mod Rising
 pub mod Records
 pub mod Sound
-pub mod Room
-pub mod Back
 pub mod Statements
-pub mod Flat

@@ -9,7 +9,7 @@ use Rattle.meaning_list_laws.specs.Tests.{and_both, then-zero, unless-zero}
 use Rattle.meaning_sheets.specs.Sheets.{side_points}
 use Rattle.stl_format.specs.Stl.{Triangle, fan_triangles, polygon_triangles, side_triangles, triangles_of, body_stl, narrow_point, narrow_points, narrow_sides, stl_refusal}
 use Rattle.stl_body.specs.Read.{stl_triangles, corners}
-use Rattle.stl_body.specs.Back.{read_back}
+use Rattle.stl_body.proofs.Back.{read_back}
 
 -- the corners of the fans are points of the sides
 narrow-append : (k l : List Triangle) → narrow_points (corners (k ++ l)) ≡ (narrow_points (corners k) && narrow_points (corners l))

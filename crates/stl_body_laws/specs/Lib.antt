@@ -3,13 +3,6 @@ pub mod Evaluated
 pub mod Met
 pub mod Walked
 pub mod Vertices
-pub mod Uses
-pub mod Closed
 pub mod Dressed
-pub mod Round
-pub mod Formed
 pub mod Kept
-pub mod Zeros
-pub mod Writing
 pub mod Again
-pub mod Statements

@@ -10,7 +10,8 @@ use Rattle.meaning.specs.Lists.{run, all, member, meet, meets}
 use Rattle.meaning_list_laws.specs.Tests.{and_both, or-none}
 use Rattle.meaning_list_laws.specs.Lists.{all_none, all_snoc, member-counted, member-uncounted, meets-snoc, meet-old, meet-new, count-run-in, count-run-after}
 use Rattle.stl_body.specs.Read.{known, which_of, met_behind}
-use Rattle.stl_body.specs.Laws.{holds, which-below, known-last, met_one}
+use Rattle.stl_body.specs.Laws.{holds}
+use Rattle.stl_body.proofs.Laws.{which-below, known-last, met_one}
 
 -- ---- runs
 

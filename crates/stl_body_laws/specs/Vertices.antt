@@ -13,9 +13,10 @@ use Rattle.meaning_list_laws.specs.Tests.{and_both}
 use Rattle.meaning_list_laws.specs.Lists.{joined-none, joined-cons, meets-append, meet-old, member-tail, member-meets}
 use Rattle.stl_format.specs.Stl.{Triangle}
 use Rattle.stl_body.specs.Read.{known, which_of, met_behind, all_met, same_point, corners, Step, step, same_step, around, steps_of, edge_of, mesh_of, built, all_finite}
-use Rattle.stl_body.specs.Laws.{holds, met_one}
-use Rattle.stl_body.specs.Meshes.{one-step, finite-themselves}
-use Rattle.stl_body.specs.Records.{shell-new, edge-new}
+use Rattle.stl_body.specs.Laws.{holds}
+use Rattle.stl_body.proofs.Laws.{met_one}
+use Rattle.stl_body.proofs.Meshes.{one-step, finite-themselves}
+use Rattle.stl_body.proofs.Records.{shell-new, edge-new}
 use Rattle.stl_body_laws.specs.Met.{run-front, Next, before, next, meet-met, next_of}
 use Rattle.stl_body_laws.specs.Walked.{Proper, new-shells, edges-walked}
 

@@ -12,11 +12,13 @@ use Rattle.meaning.specs.Walks.{shells_of, face_walk, faces_refusal, face_edges,
 use Rattle.meaning_list_laws.specs.Lists.{meets-append}
 use Rattle.stl_format.specs.Stl.{Triangle}
 use Rattle.stl_body.specs.Read.{which_of, all_met, same_point, corners, Step, step, same_step, steps_of, edge_of, Mesh, mesh_of, new_loop, built, all_finite, all_apart}
-use Rattle.stl_body.specs.Laws.{holds, met_holds}
-use Rattle.stl_body.specs.Meshes.{all-themselves, Ranged, mesh-ranged}
-use Rattle.stl_body.specs.Rising.{edges-rise}
-use Rattle.stl_body.specs.Records.{body_new, region-new, shell-new, face-new, loop-new, fin-new}
-use Rattle.stl_body.specs.Sound.{has-edge}
+use Rattle.stl_body.specs.Laws.{holds}
+use Rattle.stl_body.proofs.Laws.{met_holds}
+use Rattle.stl_body.specs.Meshes.{Ranged}
+use Rattle.stl_body.proofs.Meshes.{all-themselves, mesh-ranged}
+use Rattle.stl_body.proofs.Rising.{edges-rise}
+use Rattle.stl_body.proofs.Records.{body_new, region-new, shell-new, face-new, loop-new, fin-new}
+use Rattle.stl_body.proofs.Sound.{has-edge}
 use Rattle.stl_body_laws.specs.Met.{member-run, run-front, run-met, met-before, all-over, met-run}
 
 -- ---- the mesh of an accepted reading

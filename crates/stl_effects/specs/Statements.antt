@@ -48,22 +48,6 @@ file-length room w x o b =
     let sides = solid_sides (decode room w x) (body_asked room w x o b) in
     stl-length (triangles_of (decode room w x) sides) ∙ ap (λ n. 84 + 50 * n) (count-is (decode room w x) sides)
 
--- the count that a viewer reads in the file is that number: none outgrows 32 bits
-pub count-read : (room w : List ℕ) (x : List Float) (o b : ℕ) → number 4 (drop 80 (stl_asked room w x o b)) ≡ triangles (decode room w x) (solid_sides (decode room w x) (body_asked room w x o b))
-count-read room w x o b = ap (number 4) behind ∙ number-little 4 (length all) (triangles_bytes all) small ∙ count-is (decode room w x) sides
-  where
-    sides : List Side
-    sides = solid_sides (decode room w x) (body_asked room w x o b)
-
-    all : List Triangle
-    all = triangles_of (decode room w x) sides
-
-    behind : drop 80 (stl_of all) ≡ little 4 (length all) ++ triangles_bytes all
-    behind = unfold stl_of in refl
-
-    small : length all < 4294967296
-    small = subst (λ (n : ℕ). n < 4294967296) (sym (count-is (decode room w x) sides)) (count_fits room w x (body_asked room w x o b))
-
 module _ (room w : List ℕ) (x : List Float) (o b : ℕ) (face_marks bytes : List ℕ) where
   abbrev answered : ℕ
   answered = office_write_number room w x o b face_marks bytes

@@ -42,21 +42,8 @@ unfoldable pub cone_sum : Float → List Triangle → Float
 cone_sum acc [] = acc
 cone_sum acc (t ∷ l) = cone_sum (acc +ᶠ dot_v (to_vec t.a) (cross_v (minus t.b t.a) (minus t.c t.a))) l
 
-fan-sum : (o : Point3) (acc : Float) (l : List Point3) → fan o acc l ≡ cone_sum acc (fan_triangles o l)
+pub fan-sum : (o : Point3) (acc : Float) (l : List Point3) → fan o acc l ≡ cone_sum acc (fan_triangles o l)
 unfolding fan fan_triangles cone_sum
 fan-sum o acc [] = refl
 fan-sum o acc (p ∷ []) = refl
 fan-sum o acc (p ∷ q ∷ l) = fan-sum o (acc +ᶠ dot_v (to_vec o) (cross_v (minus p o) (minus q o))) (q ∷ l)
-
-pub volume-of-triangles : (m : Model) (s : Side) → side_volume m s ≡ cone_sum zero_f (side_triangles m s) /ᶠ float_of 6
-volume-of-triangles m s = told ∙ by (side_points m s) ∙ drawn
-  where
-    told : side_volume m s ≡ polygon_volume (side_points m s)
-    told = unfold side_volume side_points in refl
-
-    drawn : cone_sum zero_f (polygon_triangles (side_points m s)) /ᶠ float_of 6 ≡ cone_sum zero_f (side_triangles m s) /ᶠ float_of 6
-    drawn = unfold side_triangles in refl
-
-    by : (l : List Point3) → polygon_volume l ≡ cone_sum zero_f (polygon_triangles l) /ᶠ float_of 6
-    by [] = unfold polygon_volume polygon_triangles cone_sum div of_int in refl
-    by (o ∷ l) = unfold polygon_volume polygon_triangles in ap (λ a. a /ᶠ float_of 6) (fan-sum o zero_f l)

@@ -13,8 +13,8 @@ use Rattle.meaning_list_laws.specs.Lists.{count-snoc}
 use Rattle.memory_writes.specs.Put.{over}
 use Rattle.stl_body.specs.Read.{corner_in, triangle_in, triangles_in, count_in, stl_triangles, corners, step, edge_of}
 use Rattle.stl_body.specs.Flat.{steps_in}
-use Rattle.stl_body.specs.Meshes.{corners-length}
-use Rattle.stl_body.specs.Statements.{triangles-length}
+use Rattle.stl_body.proofs.Meshes.{corners-length}
+use Rattle.stl_body.proofs.Statements.{triangles-length}
 use Rattle.stl_corners.specs.Laws.{point}
 use Rattle.stl_numbers.specs.Numbered.{point_in, step_in, after, step_at}
 

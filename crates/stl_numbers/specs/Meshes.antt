@@ -11,9 +11,9 @@ use Rattle.memory_writes.specs.Over.{length_over}
 use Rattle.stl_format.specs.Stl.{Triangle}
 use Rattle.stl_body.specs.Read.{count_in, stl_triangles, which_of, all_met, same_point, corners, Step, same_step, around, steps_of, edge_of, mesh_of}
 use Rattle.stl_body.specs.Flat.{corner_numbers, steps_in, flat_points, flat_steps, Held}
-use Rattle.stl_body.specs.Laws.{met-length}
-use Rattle.stl_body.specs.Meshes.{corners-length, steps-length}
-use Rattle.stl_body.specs.Statements.{triangles-length}
+use Rattle.stl_body.proofs.Laws.{met-length}
+use Rattle.stl_body.proofs.Meshes.{corners-length, steps-length}
+use Rattle.stl_body.proofs.Statements.{triangles-length}
 use Rattle.stl_numbers.specs.Numbered.{numbers_of, Numbered, few, CornersRead, StepsRead}
 use Rattle.stl_numbers.specs.Laid.{laid-length, points-laid, steps-laid}
 

@@ -11,7 +11,8 @@ use mathlib.Core.List.{List, [], ◌∷◌, ◌++◌, map, map-append}
 use Rattle.std.proofs.Math.ListN.{length}
 use Rattle.meaning_list_laws.specs.Tests.{and_both, or-none}
 use Rattle.stl_body.specs.Read.{known, which_of, met_behind, all_met}
-use Rattle.stl_body.specs.Laws.{holds, holds-all, which-below, met-known, met_one}
+use Rattle.stl_body.specs.Laws.{holds}
+use Rattle.stl_body.proofs.Laws.{holds-all, which-below, met-known, met_one}
 use Rattle.stl_numbers.specs.Numbered.{numbers_of}
 
 pub holds-take : {A : Type 0} (p : A → Bool) (k : ℕ) (l : List A) → holds p l ≡ true → holds p (take k l) ≡ true

@@ -4,7 +4,8 @@ use Rattle.std.proofs.Common.{arith, sym, ap, ◌∙◌, subst, length-set, leng
 use Rattle.memory_writes.specs.Put.{over}
 use Rattle.memory_writes.specs.Over.{length_over}
 use Rattle.stl_body.specs.Read.{which_of, all_met}
-use Rattle.stl_body.specs.Laws.{holds, holds-nth}
+use Rattle.stl_body.specs.Laws.{holds}
+use Rattle.stl_body.proofs.Laws.{holds-nth}
 use Rattle.stl_numbers.specs.Numbered.{Numbered, unless_known, things_in}
 use Rattle.stl_numbers.specs.Met.{holds-take, which-within}
 use Rattle.stl_numbers.specs.Laid.{Laid, stored_back, things-length, numbered-none, numbered_more}

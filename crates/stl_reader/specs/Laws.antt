@@ -20,8 +20,8 @@ use Rattle.memory_writes.specs.Put.{unless_refused}
 use Rattle.memory_writes.specs.Over.{length_over}
 use Rattle.memory_layout.specs.Limits.{limits}
 use Rattle.image_laws.specs.Numbers.{Bytes, below-drop, number-below}
-use Rattle.stl_body.specs.Meshes.{corners-length}
-use Rattle.stl_body.specs.Statements.{triangles-length}
+use Rattle.stl_body.proofs.Meshes.{corners-length}
+use Rattle.stl_body.proofs.Statements.{triangles-length}
 use Rattle.stl_body.specs.Flat.{steps_in, flat_points, flat_steps}
 use Rattle.stl_body.specs.Read.{Mesh, which_of, all_met, same_point, same_step, edge_of, stl_triangles, count_in, length_fits, corners, mesh_of, all_finite, all_apart, has_room, triangles_refusal, read_refusal}
 use Rattle.stl_corners.specs.Laws.{fit_length}

@@ -11,7 +11,7 @@ use Rattle.memory_writes.specs.Change.{SameModel}
 use Rattle.memory_writes.specs.Kept.{readable_of}
 use Rattle.memory_layout.specs.Limits.{limits}
 use Rattle.stl_body.specs.Read.{read_refusal, model_after_read}
-use Rattle.stl_reading_effects.specs.Statements.{accepted-model, accepted-fit}
+use Rattle.stl_reading_effects.proofs.Follows.{accepted-model, accepted-fit}
 use Rattle.stl_reader.specs.Answers.{read_stl_number, read_stl_words, read_stl_reals}
 
 module _ (room w : List ℕ) (x : List Float) (o : ℕ) (b : List ℕ) where

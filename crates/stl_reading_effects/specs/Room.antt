@@ -12,8 +12,9 @@ use Rattle.memory_layout.specs.Fit.{Fit}
 use Rattle.memory_layout.specs.Laws.{capacity-le}
 use Rattle.memory_layout.specs.Limits.{limits}
 use Rattle.stl_body.specs.Read.{Step, step, Mesh, fins_on, room_tests, has_room}
-use Rattle.stl_body.specs.Laws.{fins-length}
-use Rattle.stl_body.specs.Meshes.{ends_below, ends-both, Ranged}
+use Rattle.stl_body.proofs.Laws.{fins-length}
+use Rattle.stl_body.specs.Meshes.{ends_below, Ranged}
+use Rattle.stl_body.proofs.Meshes.{ends-both}
 use Rattle.stl_body.specs.Flat.{flat_steps, Held}
 use Rattle.stl_rows.specs.Rows.{new_counts}
 use Rattle.stl_rows.specs.Facts.{Space, FloatSpace, Ready, Flattened}

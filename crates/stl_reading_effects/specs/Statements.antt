@@ -18,8 +18,8 @@ use Rattle.memory_writes.specs.Change.{SameTable, SameModel}
 use Rattle.memory_writes.specs.Kept.{readable_of}
 use Rattle.memory_layout.specs.Limits.{limits}
 use Rattle.stl_body.specs.Read.{step, Mesh, fins_on, new_body, new_region, new_shell, new_face, new_loop, new_fin, new_edge, new_vertex, stl_triangles, mesh_of, built, has_room, read_refusal, model_after_read}
-use Rattle.stl_body.specs.Meshes.{mesh-ranged}
-use Rattle.stl_body.specs.Statements.{accepted, accepted-is}
+use Rattle.stl_body.proofs.Meshes.{mesh-ranged}
+use Rattle.stl_body.proofs.Statements.{accepted, accepted-is}
 use Rattle.stl_rows.specs.Rows.{new_counts, new_rows, new_floats, read_words, read_reals}
 use Rattle.stl_rows.specs.Facts.{Ready, Flattened}
 use Rattle.stl_rows.specs.Laws.{body-length, loop-length}
@@ -28,7 +28,7 @@ use Rattle.stl_reading_effects.specs.Laid.{Laid, Sound, laid-tables}
 use Rattle.stl_reading_effects.specs.Records.{body-read, region-read, shell-read, face-read, loop-read, fin-read, edge-read, vertex-read, body_ok, region-ok, shell-ok, face-ok, loop-ok, fin-ok, edge-ok, vertex-ok}
 
 -- a table with n records more reads as the table extended by them
-table-laid : (room w w' : List ℕ) (x x' : List Float) (row : ℕ → ℕ → List ℕ) (floats : ℕ → ℕ → List Float) (c : ℕ → ℕ) → Laid room w x row floats c w' x'
+pub table-laid : (room w w' : List ℕ) (x x' : List Float) (row : ℕ → ℕ → List ℕ) (floats : ℕ → ℕ → List Float) (c : ℕ → ℕ) → Laid room w x row floats c w' x'
     → {A : Type 0} (of : List ℕ → List Float → A) (q n : ℕ) (new : ℕ → A) → q < 10 → c q ≡ n → ((j : ℕ) → j < n → of (new_words q (row q j)) (floats q j) ≡ new j)
     → SameTable (table room w' x' q of) (extended (table room w x q of) n new)
 unfolding extended
@@ -53,7 +53,7 @@ table-laid room w w' x x' row floats c l of q n new h e same =
         ∙ same j (omega arith)
 
 -- a table that got none reads as it was
-table_kept : (room w w' : List ℕ) (x x' : List Float) (row : ℕ → ℕ → List ℕ) (floats : ℕ → ℕ → List Float) (c : ℕ → ℕ) → Laid room w x row floats c w' x'
+pub table_kept : (room w w' : List ℕ) (x x' : List Float) (row : ℕ → ℕ → List ℕ) (floats : ℕ → ℕ → List Float) (c : ℕ → ℕ) → Laid room w x row floats c w' x'
     → {A : Type 0} (of : List ℕ → List Float → A) (q : ℕ) → q < 10 → c q ≡ 0 → SameTable (table room w' x' q of) (table room w x q of)
 table_kept room w w' x x' row floats c l of q h e =
     let u = l.used q h in
@@ -70,7 +70,7 @@ module _ (room w : List ℕ) (x : List Float) (o : ℕ) (t : Mesh) (fit : Fit ro
   abbrev float : ℕ → ℕ → List Float
   float q = get_or (new_floats t) q (λ _. [])
 
-  sound : (k j : ℕ) → k < 8 → j < word (new_counts t) k → Sound room w x row float k j
+  pub sound : (k j : ℕ) → k < 8 → j < word (new_counts t) k → Sound room w x row float k j
   sound zero j h g = record { short = let l = body-length o (word w 1) j in omega arith; whole = refl; ok = body_ok o (word w 1) j [] (unless-zero 0 (leb o 1) office) }
   sound (suc zero) j h g = record { short = omega arith; whole = refl; ok = region-ok (word w 0) (word w 2) j [] g }
   sound (suc (suc zero)) j h g =
@@ -85,55 +85,11 @@ module _ (room w : List ℕ) (x : List Float) (o : ℕ) (t : Mesh) (fit : Fit ro
   sound (suc (suc (suc (suc (suc (suc (suc zero))))))) j h g = record { short = omega arith; whole = refl; ok = vertex-ok j _ }
   sound (suc (suc (suc (suc (suc (suc (suc (suc k)))))))) j h g = absurd (omega arith)
 
-  abbrev more : ℕ → ℕ
-  more q = cond (ltb q 8) (word (new_counts t) q) (cond (eqb q 8) 0 0)
-
-  laid : Laid room w x row float more (read_words room w o t) (read_reals room w x t)
-  unfolding read_words read_reals
-  laid = laid-tables room w x (new_rows w o t) (new_floats t) (new_counts t) 8 (omega arith) (slots room w x t roomy) sound fit 8 (omega arith)
-
-  -- the memory holds the model that is built
-  pub read-model : SameModel (decode room (read_words room w o t) (read_reals room w x t)) (built (decode room w x) (office_of o) t)
-  unfolding decode built
-  read-model =
-      let w' : List ℕ = read_words room w o t in
-      let x' : List Float = read_reals room w x t in
-      let m = decode room w x in
-      record {
-        version = ap version_of laid.version;
-        precision = laid.precision;
-        bodies = table-laid room w w' x x' row float more laid (λ r _. body_of r) 0 1 (λ k. new_body m (office_of o)) (omega arith) refl (λ j h. body-read room w x o j);
-        regions = table-laid room w w' x x' row float more laid (λ r _. region_of r) 1 2 (new_region m) (omega arith) refl (λ j h. region-read room w x j h);
-        shells = table-laid room w w' x x' row float more laid (λ r _. shell_of r) 2 2 (new_shell m t) (omega arith) refl (λ j h. shell-read room w x t j (shell-room room w x t roomy));
-        faces = table-laid room w w' x x' row float more laid (λ r _. face_of r) 3 t.triangles (new_face m) (omega arith) refl (λ j h. face-read room w x j);
-        loops = table-laid room w w' x x' row float more laid (λ r _. loop_of r) 4 t.triangles (new_loop m) (omega arith) refl (λ j h. loop-read room w x j);
-        fins = table-laid room w w' x x' row float more laid (λ r _. fin_of r) 5 (3 * t.triangles) (new_fin m t) (omega arith) refl (λ j h. fin-read room w x t j);
-        edges = table-laid room w w' x x' row float more laid edge_of 6 (length t.edges) (new_edge m t) (omega arith) refl (λ j h. edge-read room w x t j);
-        vertices = table-laid room w w' x x' row float more laid vertex_of 7 (length t.points) (new_vertex t) (omega arith) refl (λ j h. vertex-read room w x t j);
-        curves = table_kept room w w' x x' row float more laid carrier_of 8 (omega arith) refl;
-        surfaces = table_kept room w w' x x' row float more laid carrier_of 9 (omega arith) refl;
-      }
-
-  -- and is readable
-  pub read-fit : Fit room (read_words room w o t) (read_reals room w x t)
-  read-fit = laid.fit
-
-  pub read-readable : readable room (read_words room w o t) (read_reals room w x t) ≡ true
-  read-readable = readable_of room (read_words room w o t) (read_reals room w x t) read-fit
-
 -- ---- the bytes s of an accepted reading
 
 module _ (room w : List ℕ) (x : List Float) (o : ℕ) (s : List ℕ) (fit : Fit room w x) (passed : read_refusal (limits room) (decode room w x) o s ≡ 0) where
   abbrev mesh : Mesh
   mesh = mesh_of (stl_triangles s)
-
-  pub accepted-model : SameModel (decode room (read_words room w o mesh) (read_reals room w x mesh)) (model_after_read (limits room) (decode room w x) o s)
-  accepted-model =
-      let a = accepted (limits room) (decode room w x) o s passed in
-      rw (accepted-is (limits room) (decode room w x) o s passed) (read-model room w x o mesh fit a.room a.office)
-
-  pub accepted-fit : Fit room (read_words room w o mesh) (read_reals room w x mesh)
-  accepted-fit = let a = accepted (limits room) (decode room w x) o s passed in read-fit room w x o mesh fit a.room a.office
 
   -- and what `lay` of `stl_laying` asks, where the mesh stands in flat lists
   pub accepted-ready : (n v e : ℕ) (numbers : List ℕ) (points : List Float) (edges ends : List ℕ) → Flattened mesh n v e numbers points edges ends

@@ -6,7 +6,7 @@ use borrow.Author.Rules.{rules}
 use lib.ListN.{length}
 use Rattle.stl_body.specs.Read.{stl_triangles, same_point, corners, nowhere}
 use Rattle.stl_body.specs.Flat.{flat_points}
-use Rattle.stl_body.specs.Meshes.{finite-themselves}
+use Rattle.stl_body.proofs.Meshes.{finite-themselves}
 use Rattle.stl_numbers.specs.Laid.{points-laid}
 use Rattle.stl_numbers.specs.Corners.{read_length, read-nth}
 use Rattle.stl_numbers.specs.Turns.{Turned, turned_none, turned-within, turned_more, turned-all}

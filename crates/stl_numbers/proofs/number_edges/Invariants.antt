@@ -7,7 +7,7 @@ use borrow.Author.Rules.{rules}
 use lib.ListN.{length}
 use Rattle.stl_body.specs.Read.{step, same_step, edge_of}
 use Rattle.stl_body.specs.Flat.{steps_in, flat_steps}
-use Rattle.stl_body.specs.Meshes.{all-themselves}
+use Rattle.stl_body.proofs.Meshes.{all-themselves}
 use Rattle.stl_numbers.specs.Laid.{steps-laid}
 use Rattle.stl_numbers.specs.Corners.{after-below, edges-length, edge-nth}
 use Rattle.stl_numbers.specs.Turns.{Turned, turned_none, turned-within, turned_more, turned-all}

@@ -1,7 +1,7 @@
 -- `stl_reader::read_triangles` meets its contract. Assumes nothing.
 use mathlib.Core.Path.{refl}
 use Rattle.stl_body.specs.Read.{stl_triangles, mesh_of}
-use Rattle.stl_body.specs.Meshes.{mesh-ranged}
+use Rattle.stl_body.proofs.Meshes.{mesh-ranged}
 use Rattle.stl_reader.specs.Laws.{corners-read, steps-read, flattened}
 use borrow.Author.Rules.{rules}
 use Rattle.stl_reader.proofs.read_triangles.Goals as goal

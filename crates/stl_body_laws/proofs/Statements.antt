@@ -22,19 +22,19 @@ use Rattle.meaning_list_laws.specs.Tests.{both_ways}
 use Rattle.stl_format.specs.Stl.{Triangle, triangles_of, stl_of, body_stl, stl_refusal}
 use Rattle.stl_body.specs.Read.{count_in, stl_triangles, corners, Mesh, mesh_of, built, after_read, read_refusal, model_after_read}
 use Rattle.stl_body.specs.Laws.{holds}
-use Rattle.stl_body.specs.Meshes.{mesh-ranged}
+use Rattle.stl_body.proofs.Meshes.{mesh-ranged}
 use Rattle.stl_body.specs.Sound.{topology}
-use Rattle.stl_body.specs.Statements.{triangles-length, accepted, accepted-is}
+use Rattle.stl_body.proofs.Statements.{triangles-length, accepted, accepted-is}
 use Rattle.stl_body_laws.specs.Terms.{closed_surface, edge_shown, edges_shown, read_report, dressed, stored_triangle, same_triangles, plain_point}
 use Rattle.stl_body_laws.specs.Walked.{Proper, mesh-proper, faces-walked, edges-walked, faces-followed, edges-followed, vertices-followed}
 use Rattle.stl_body_laws.specs.Vertices.{vertices-walked}
-use Rattle.stl_body_laws.specs.Uses.{fins-are-uses, report-is}
-use Rattle.stl_body_laws.specs.Closed.{edge-otherwise, closed-quiet, quiet-closed, closed-report}
-use Rattle.stl_body_laws.specs.Round.{set-findings, written, stored-by-value}
-use Rattle.stl_body_laws.specs.Formed.{formed-kept}
+use Rattle.stl_body_laws.proofs.Uses.{fins-are-uses, report-is}
+use Rattle.stl_body_laws.proofs.Closed.{edge-otherwise, closed-quiet, quiet-closed, closed-report}
+use Rattle.stl_body_laws.proofs.Round.{set-findings, written, stored-by-value}
+use Rattle.stl_body_laws.proofs.Formed.{formed-kept}
 use Rattle.stl_body_laws.specs.Kept.{dressed-formed}
-use Rattle.stl_body_laws.specs.Zeros.{read_fits, stored-as-read}
-use Rattle.stl_body_laws.specs.Writing.{write-accepted, vertices-narrow}
+use Rattle.stl_body_laws.proofs.Zeros.{read_fits, stored-as-read}
+use Rattle.stl_body_laws.proofs.Writing.{write-accepted, vertices-narrow}
 use Rattle.stl_body_laws.specs.Again.{reads-back}
 
 -- nothing behind a list that is the whole
@@ -116,11 +116,6 @@ module _ (x : Limits) (m : Model) (o : ℕ) (s : List ℕ) (h : read_refusal x m
     as-built : set ≡ dressed (built m (office_of o) mesh) curves surfaces along on
     as-built = ap (λ n. dressed n curves surfaces along on) (accepted-is x m o s h)
 
-    -- with carriers that are there the model is well formed still
-    pub set-formed : WellFormed x m → curves.used ≤ x.curves → surfaces.used ≤ x.surfaces → ((i : ℕ) → i < now.faces.used → has_maybe surfaces (on i) ≡ true)
-        → ((i : ℕ) → i < now.edges.used → has_maybe curves (along i) ≡ true) → WellFormed x set
-    set-formed w = dressed-formed now curves surfaces along on x (stays-formed x m o s w)
-
     -- where each new face has a surface, what the edges' uses show is all that is found
     pub report-set : ((k : ℕ) → k < count_in s → is_some (on (m.faces.used + k)) ≡ true) → findings set topology new ≡ edges_shown m mesh
     report-set a = ap (λ n. findings n topology new) as-built ∙ set-findings m (office_of o) mesh proper curves surfaces along on (λ k b. a k (rw how-many at b))
@@ -164,7 +159,3 @@ module _ (x : Limits) (m : Model) (o : ℕ) (s : List ℕ) (h : read_refusal x m
     pub read_again : (k : Model) (c : ℕ) → stl_refusal k c ≡ 0 → length (triangles_of k (solid_sides k c)) < 2 ^ 32 → s ≡ body_stl k c
         → same_triangles (triangles_of k (solid_sides k c)) (triangles_of set (solid_sides set new)) ≡ true
     read_again k c w few e = ap (λ l. same_triangles l (triangles_of set (solid_sides set new))) (sym (ap stl_triangles e ∙ reads-back k c w few)) ∙ written_same
-
-    -- so a file that W-209 wrote, read and written again is the same file where it has no zero below zero
-    pub same-file : (k : Model) (c : ℕ) → stl_refusal k c ≡ 0 → length (triangles_of k (solid_sides k c)) < 2 ^ 32 → s ≡ body_stl k c → holds plain_point (corners read) ≡ true → body_stl set new ≡ s
-    same-file k c w few e g = ap stl_of (written-exactly g ∙ ap stl_triangles e ∙ reads-back k c w few) ∙ sym e

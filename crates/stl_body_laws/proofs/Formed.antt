@@ -18,13 +18,14 @@ use Rattle.meaning_list_laws.specs.Tests.{and_both, maybe-weaken}
 use Rattle.meaning_list_laws.specs.Lists.{count_none, count-cons, count-above, count-run-before, count-run-in, count-run-after, all_none, all_one, all-run, all-weaken, all_append}
 use Rattle.meaning_list_laws.specs.Tables.{extended-old, extended-new}
 use Rattle.stl_body.specs.Read.{step, Mesh, has_room, new_body, new_region, new_shell, new_face, new_loop, new_fin, new_edge, built}
-use Rattle.stl_body.specs.Laws.{fins-before, fin-once}
-use Rattle.stl_body.specs.Meshes.{ends-both, Ranged}
-use Rattle.stl_body.specs.Records.{built-grown}
-use Rattle.stl_body.specs.Sound.{meets-there}
-use Rattle.stl_body.specs.Room.{old-and-new, room-kept}
+use Rattle.stl_body.proofs.Laws.{fins-before, fin-once}
+use Rattle.stl_body.specs.Meshes.{Ranged}
+use Rattle.stl_body.proofs.Meshes.{ends-both}
+use Rattle.stl_body.proofs.Records.{built-grown}
+use Rattle.stl_body.proofs.Sound.{meets-there}
+use Rattle.stl_body.proofs.Room.{old-and-new, room-kept}
 use Rattle.stl_body_laws.specs.Walked.{fins-of}
-use Rattle.stl_body_laws.specs.Uses.{fins-below}
+use Rattle.stl_body_laws.proofs.Uses.{fins-below}
 
 -- ---- "Every stored id names a record"
 

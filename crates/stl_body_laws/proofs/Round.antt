@@ -16,14 +16,15 @@ use Rattle.meaning_list_laws.specs.Lists.{joined-none, joined-cons}
 use Rattle.meaning_sheets.specs.Sheets.{side_points}
 use Rattle.stl_format.specs.Stl.{Triangle, fan_triangles, polygon_triangles, side_triangles, triangles_of}
 use Rattle.stl_body.specs.Read.{known, which_of, all_met, same_point, corners, step, steps_of, Mesh, mesh_of, built, all_finite, nowhere}
-use Rattle.stl_body.specs.Laws.{holds, which-same}
-use Rattle.stl_body.specs.Meshes.{all-stored}
-use Rattle.stl_body.specs.Records.{body_new, region-new, shell-new, face-new, loop-new, vertex-new, fin-ends}
+use Rattle.stl_body.specs.Laws.{holds}
+use Rattle.stl_body.proofs.Laws.{which-same}
+use Rattle.stl_body.proofs.Meshes.{all-stored}
+use Rattle.stl_body.proofs.Records.{body_new, region-new, shell-new, face-new, loop-new, vertex-new, fin-ends}
 use Rattle.stl_body.specs.Sound.{topology}
 use Rattle.stl_body_laws.specs.Terms.{taken, turned, shown_by, edge_shown, edges_shown, read_report, dressed, surfaced, without_nine, stored_point, stored_triangle, same_triangles}
 use Rattle.stl_body_laws.specs.Met.{run-front, all-over}
 use Rattle.stl_body_laws.specs.Walked.{Proper, fins-of}
-use Rattle.stl_body_laws.specs.Uses.{report-is}
+use Rattle.stl_body_laws.proofs.Uses.{report-is}
 use Rattle.stl_body_laws.specs.Dressed.{Free, free-joined, free-cond, free_one, free-if, nine-append, same_ends, set-report}
 
 -- ---- the report without reason 9

@@ -25,15 +25,16 @@ use Rattle.meaning_list_laws.specs.Lists.{length_run}
 use Rattle.meaning_sheets.specs.Sheets.{side_points}
 use Rattle.stl_format.specs.Stl.{Triangle, narrow_point, narrow_points, narrow_sides, stl_refusal}
 use Rattle.stl_body.specs.Read.{same_point, corners, step, Mesh, mesh_of, built, all_finite, nowhere}
-use Rattle.stl_body.specs.Laws.{holds, holds-nth, met_holds}
-use Rattle.stl_body.specs.Meshes.{ends-both}
-use Rattle.stl_body.specs.Records.{body_new, face-new}
+use Rattle.stl_body.specs.Laws.{holds}
+use Rattle.stl_body.proofs.Laws.{holds-nth, met_holds}
+use Rattle.stl_body.proofs.Meshes.{ends-both}
+use Rattle.stl_body.proofs.Records.{body_new, face-new}
 use Rattle.stl_body_laws.specs.Terms.{dressed}
 use Rattle.stl_body_laws.specs.Met.{run-front}
 use Rattle.stl_body_laws.specs.Walked.{Proper, faces-walked, edges-walked, faces-followed, edges-followed}
 use Rattle.stl_body_laws.specs.Dressed.{same-faces, same-walk, same-faces-refusal, same-refusal}
-use Rattle.stl_body_laws.specs.Round.{new_side, solid-sides, looks-out, not_in, its-rim, its-start, point_at, its-points}
-use Rattle.stl_body_laws.specs.Zeros.{fit_point}
+use Rattle.stl_body_laws.proofs.Round.{new_side, solid-sides, looks-out, not_in, its-rim, its-start, point_at, its-points}
+use Rattle.stl_body_laws.proofs.Zeros.{fit_point}
 
 first_of-run : (f : ℕ → ℕ) (u n : ℕ) → ((j : ℕ) → j < n → f (u + j) ≡ 0) → first_of f (run u n) ≡ 0
 unfolding run

@@ -14,8 +14,9 @@ use Rattle.float_vectors.specs.declared.vector.Point3.{Point3}
 use Rattle.meaning_list_laws.specs.Tests.{and_both, or-none}
 use Rattle.stl_format.specs.Stl.{Triangle}
 use Rattle.stl_body.specs.Read.{known, which_of, all_met, same_point, corners, Step, step, same_step, steps_of, edge_of, mesh_of, all_finite, all_apart, nowhere}
-use Rattle.stl_body.specs.Laws.{holds, holds-nth, which-same, met_holds}
-use Rattle.stl_body.specs.Meshes.{all-stored}
+use Rattle.stl_body.specs.Laws.{holds}
+use Rattle.stl_body.proofs.Laws.{holds-nth, which-same, met_holds}
+use Rattle.stl_body.proofs.Meshes.{all-stored}
 
 -- ---- two floats that are equal to a third are equal
 

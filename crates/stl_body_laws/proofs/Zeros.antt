@@ -16,8 +16,9 @@ use Rattle.image_format.specs.Bytes.{number}
 use Rattle.meaning_list_laws.specs.Tests.{and_both}
 use Rattle.stl_format.specs.Stl.{Triangle}
 use Rattle.stl_body.specs.Read.{coordinate_in, corner_in, triangle_in, triangles_in, count_in, stl_triangles, known, which_of, all_met, same_point, corners, mesh_of, all_finite, nowhere}
-use Rattle.stl_body.specs.Laws.{holds, holds-nth, which-below, which-same, met_holds}
-use Rattle.stl_body.specs.Meshes.{all-stored}
+use Rattle.stl_body.specs.Laws.{holds}
+use Rattle.stl_body.proofs.Laws.{holds-nth, which-below, which-same, met_holds}
+use Rattle.stl_body.proofs.Meshes.{all-stored}
 use Rattle.stl_body_laws.specs.Terms.{stored_point, stored_triangle, minus_zero, plain_point}
 
 -- ---- a number other than zero is written in one way

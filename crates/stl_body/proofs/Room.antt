@@ -12,7 +12,7 @@ use Rattle.meaning_list_laws.specs.Tests.{every-at, all_below-at}
 use Rattle.meaning_list_laws.specs.Lists.{length_run}
 use Rattle.meaning_list_laws.specs.Tables.{extended-old, extended-new}
 use Rattle.stl_body.specs.Read.{Mesh, room_tests, has_room, new_body, new_region, new_shell, new_face, new_loop, new_edge, new_vertex, built}
-use Rattle.stl_body.specs.Laws.{fins-length}
+use Rattle.stl_body.proofs.Laws.{fins-length}
 
 -- what holds of the records of before and of the new ones holds of all
 pub old-and-new : {A : Type 0} (P : A → Type 0) (t : Table A) (n : ℕ) (new : ℕ → A) → ((i : ℕ) → i < t.used → P (t.slot i)) → ((k : ℕ) → k < n → P (new k))

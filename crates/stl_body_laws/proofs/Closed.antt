@@ -14,11 +14,12 @@ use Rattle.meaning_list_laws.specs.Tests.{and_both}
 use Rattle.meaning_list_laws.specs.Lists.{joined-nothing, all-run}
 use Rattle.meaning_list_laws.specs.Findings.{NoFault, no-fault-at, one-fault, only-if-false}
 use Rattle.stl_body.specs.Read.{Step, step, rising, edge_of, Mesh}
-use Rattle.stl_body.specs.Laws.{holds, holds-nth, holds-all}
+use Rattle.stl_body.specs.Laws.{holds}
+use Rattle.stl_body.proofs.Laws.{holds-nth, holds-all}
 use Rattle.stl_body_laws.specs.Terms.{turned, taken, both_ways, closed_surface, shown_by, edge_shown, edges_shown, read_report}
 use Rattle.stl_body_laws.specs.Met.{member-run}
 use Rattle.stl_body_laws.specs.Walked.{Proper}
-use Rattle.stl_body_laws.specs.Uses.{and-turned}
+use Rattle.stl_body_laws.proofs.Uses.{and-turned}
 
 -- a pair's two directions are those of its edge
 ways-edge : (l : List Step) (s : Step) → both_ways l (edge_of s) ≡ both_ways l s

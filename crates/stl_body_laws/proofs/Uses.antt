@@ -13,10 +13,11 @@ use Rattle.meaning.specs.Faults.{fault, only_if, same_sense, manifold, manifold_
 use Rattle.meaning_list_laws.specs.Tests.{and_both, and-true, and-false, both_ways}
 use Rattle.meaning_list_laws.specs.Lists.{joined_snoc, joined-none}
 use Rattle.stl_body.specs.Read.{Step, step, same_step, rising, edge_of, sense_of, Mesh, fins_on, built}
-use Rattle.stl_body.specs.Laws.{fins-length}
-use Rattle.stl_body.specs.Meshes.{step-itself, one-step}
-use Rattle.stl_body.specs.Records.{body_new, edge-new, fin-new}
-use Rattle.stl_body.specs.Sound.{topology, has-edge, read-findings}
+use Rattle.stl_body.proofs.Laws.{fins-length}
+use Rattle.stl_body.proofs.Meshes.{step-itself, one-step}
+use Rattle.stl_body.proofs.Records.{body_new, edge-new, fin-new}
+use Rattle.stl_body.specs.Sound.{topology}
+use Rattle.stl_body.proofs.Sound.{has-edge, read-findings}
 use Rattle.stl_body_laws.specs.Terms.{turned, taken, shown_by, edge_shown, edges_shown, read_report}
 use Rattle.stl_body_laws.specs.Walked.{Proper, edges-walked, edges-followed}
 
