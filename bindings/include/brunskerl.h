@@ -1,4 +1,4 @@
-/* Brunskerl: the station's calls, for C. Link with libstation.a (rt staticlib station).
+/* Brunskerl: the station's calls, for C. Link with libstation.a (tools/staticlib station).
  *
  * A model lies in memory that the caller lends: the ten capacities (room), words and floats. BRUNSKERL_WORDS and
  * BRUNSKERL_REALS say how long they must be. Tables, in the order of the capacities: bodies, regions, shells, faces, loops, fins,

@@ -1,21 +1,18 @@
--- The eight lists by number are the model's lists, the lookup of an entry answers with theirs, and an entry is edited by the refusals of `meaning`. Assumes nothing.
+-- The eight lists by number are the model's lists, the lookup of an entry answers with theirs (proofs/Entries.antt), and an entry is edited by the refusals of `meaning`. Assumes nothing.
 use Prim.Native.Nat.{ℕ, zero, suc, ◌<◌}
-use Rattle.std.proofs.Common.{arith, ◌∙◌, ltb-true}
+use Rattle.std.proofs.Common.{arith}
 use Rattle.std.specs.Prelude.{◌≡◌, Bool, List, [], ◌∷◌, length, get_or, Float}
 use Rattle.std.proofs.Math.Path.{refl, ap}
 use Rattle.std.proofs.Math.Bool.{true, false}
 use Rattle.std.proofs.Math.Dec.{ltb}
-use Rattle.geom_lines_planes.specs.Refuse.{◌unless◌, ◌then◌, answer}
+use Rattle.geom_lines_planes.specs.Refuse.{◌unless◌, ◌then◌}
 use Rattle.meaning.specs.Model.{Model, has, body, region, shell, face, loop, edge}
 use Rattle.meaning.specs.Refuse.{Answer, answered}
 use Rattle.meaning.specs.Edits.{edit_refusal}
-use Rattle.memory_layout.specs.declared.entries.Entry.TheVariants.{Is, Refused}
 use Rattle.memory_layout.specs.Layout.{word}
 use Rattle.memory_layout.specs.Decode.{decode}
 use Rattle.memory_layout.specs.Readable.{readable}
-use Rattle.memory_layout.specs.Entries.{list_tables, list_of, entry_refusal, entry_answer}
-use Rattle.meaning_of_calls.specs.Shown.{◌else◌, shown}
-use Rattle.meaning_of_calls.specs.Laws.{behind-one}
+use Rattle.memory_layout.specs.Entries.{list_tables, list_of, entry_refusal}
 
 -- a list of a record: whether the record exists, and the list
 pub record RecordList : Type 0 where
@@ -58,21 +55,6 @@ module _ (room w : List ℕ) (x : List Float) where
   list-is (suc (suc (suc (suc (suc (suc zero)))))) i h = refl
   list-is (suc (suc (suc (suc (suc (suc (suc zero))))))) i h = refl
   list-is (suc (suc (suc (suc (suc (suc (suc (suc j)))))))) i h = absurd (omega arith)
-
-  pub entry-is : (j i place : ℕ) → entry_answer room w x j i place ≡ shown Is Refused (9 unless readable room w x else entry (decode room w x) j i place)
-  unfolding entry_answer entry_refusal
-  entry-is j i place = go (ltb j 8) (ltb-true j 8)
-    where
-      go : (b : Bool) → (b ≡ true → j < 8)
-          → answer Is Refused (9 unless readable room w x then 1 unless b then 2 unless ltb i (word w (word list_tables j)) then 1 unless ltb place (length (list_of room w j i)))
-          (word (list_of room w j i) place)
-          ≡ shown Is Refused
-          (9 unless readable room w x else answered (1 unless b then placed (record_list (decode room w x) j i) place) (get_or (record_list (decode room w x) j i).entries place 0))
-      go true h =
-          let r = record_list (decode room w x) j i in
-          ap (λ (r : RecordList). answer Is Refused (9 unless readable room w x then placed r place) (word r.entries place)) (list-is j i (h refl))
-          ∙ behind-one Is Refused (λ v. v) (9 unless readable room w x) (placed r place) (word r.entries place)
-      go false h = behind-one Is Refused (λ v. v) (9 unless readable room w x) 1 (word (list_of room w j i) place)
 
   -- an entry put or struck: the refusals of an edit that takes no room
   pub entry-edit-is : (j i place : ℕ)

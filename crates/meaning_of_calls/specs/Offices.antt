@@ -7,16 +7,13 @@ use Rattle.interval_arithmetic.specs.Ops.{zero_f}
 use Rattle.geom_lines_planes.specs.Refuse.{◌unless◌, ◌then◌}
 use Rattle.meaning.specs.Model.{has, point_of}
 use Rattle.meaning.specs.Refuse.{lookup, given}
-use Rattle.meaning.specs.Walks.{face_walk, body_faces, edge_walk, body_edges, vertex_walk, body_vertices}
+use Rattle.meaning.specs.Walks.{face_walk, body_faces, vertex_walk, body_vertices}
 use Rattle.meaning.specs.Inquire.{box_of, body_bounding_box, solid_sides, sum_volumes, body_volume}
 use Rattle.meaning.specs.Faults.{CheckOptions, report_of, findings, check_refusal, check_body, kept, counts, sawing, sawable, fit_to_saw}
 use Rattle.meaning.specs.Offices.{office_refusal, body_for, office_split_refusal, office_split}
 use Rattle.memory_layout.specs.Names.{FACES, EDGES, VERTICES}
-use Rattle.memory_layout.specs.Layout.{word}
 use Rattle.memory_layout.specs.Decode.{decode}
 use Rattle.memory_layout.specs.Readable.{readable}
-use Rattle.memory_layout.specs.declared.entries.Entry.TheVariants as Entries
-use Rattle.memory_layout.specs.Entries.{list_of, entry_refusal, entry_answer}
 use Rattle.memory_records.specs.Seen.{seen_body}
 use Rattle.memory_contains.specs.declared.EntityRef.{EntityRef}
 use Rattle.memory_contains.specs.declared.Contained.TheVariants as Contents
@@ -24,7 +21,7 @@ use Rattle.memory_contains.specs.Answers.{contained}
 use Rattle.memory_lookups.specs.declared.BodyFound.TheVariants as Bodies
 use Rattle.memory_lookups.specs.Lookup.{body_answer}
 use Rattle.memory_offices.specs.Sight.{by_office, body_asked}
-use Rattle.walk_answers.specs.Calls.{reach, handed, in_front, faces_number, faces_handed, edges_number, edges_handed, vertices_number, vertices_handed}
+use Rattle.walk_answers.specs.Calls.{reach, handed, in_front, faces_number, faces_handed, vertices_number, vertices_handed}
 use Rattle.inquire_bbox.specs.Boxes.{seen_box}
 use Rattle.inquire_box.specs.Answers.{box_number, box_answer}
 use Rattle.inquire_volume.specs.Answers.{volume_number, volume_answer}
@@ -39,16 +36,15 @@ use Rattle.station_answers.specs.declared.Volume.TheVariants as Volumes
 use Rattle.station_answers.specs.declared.Split.TheVariants as Splits
 use Rattle.station_answers.specs.declared.Checked.TheVariants as Checks
 use Rattle.station_answers.specs.declared.Sawable.TheVariants as Saws
-use Rattle.office_bodies.specs.Answers.{entity_for, record_for, office_body_number, office_body, office_contains, office_entry_number, office_entry}
-use Rattle.office_walks.specs.Calls.{office_faces_number, office_faces_handed, office_edges_number, office_edges_handed, office_vertices_number, office_vertices_handed}
+use Rattle.office_bodies.specs.Answers.{entity_for, office_body_number, office_body, office_contains}
+use Rattle.office_walks.specs.Calls.{office_faces_number, office_faces_handed, office_vertices_number, office_vertices_handed}
 use Rattle.office_measures.specs.Answers.{office_box_number, office_box, office_volume_number, office_volume, office_check_number, office_report, office_faults, office_first, office_fit}
 use Rattle.meaning_of_calls.specs.Shown.{◌else◌, shown, on_list, WalkIs}
 use Rattle.meaning_of_calls.specs.Laws.{behind-one, behind-two, handed-answer, office-one, office-two, office-walk}
-use Rattle.meaning_of_calls.specs.Entries as Lists
-use Rattle.meaning_of_calls.specs.Statements.{seen_split, lookups-are, faces-are, edges_are, vertices-are, box-is, volume-is, check-is, fit_is}
+use Rattle.meaning_of_calls.specs.Statements.{seen_split, lookups-are, faces-are, vertices-are, box-is, volume-is, check-is, fit_is}
 
 module _ (room w : List ℕ) (x : List Float) (o : ℕ) where
-  -- ---- a body looked up, `contains`, an entry of a list, the split
+  -- ---- a body looked up, `contains`, the split
 
   pub body-told : (i : ℕ)
       → office_body room w x o i
@@ -64,15 +60,6 @@ module _ (room w : List ℕ) (x : List Float) (o : ℕ) where
       ≡ shown Contents.Is Contents.Refused (9 unless readable room w x then office_refusal o else given (contained (decode room w x) (entity_for (decode room w x) o e)))
   unfolding office_contains by_office
   contains-told e = behind-two Contents.Is Contents.Refused (λ b. b) (9 unless readable room w x) (office_refusal o) 0 (contained (decode room w x) (entity_for (decode room w x) o e))
-
-  pub entry-told : (j i place : ℕ)
-      → office_entry room w x o j i place
-      ≡ shown Entries.Is Entries.Refused (9 unless readable room w x then office_refusal o else Lists.entry (decode room w x) j (record_for (decode room w x) o j i) place)
-  unfolding office_entry office_entry_number by_office entry_answer entry_refusal
-  entry-told j i place =
-      let m = decode room w x in
-      office-one Entries.Is Entries.Refused Entries.Is (word (list_of room w j (record_for m o j i)) place) (Lists.entry m j (record_for m o j i) place) (9 unless readable room w x)
-      (office_refusal o) _ (Lists.entry-is room w x j (record_for m o j i) place)
 
   pub split-told : (e : ℕ) (t : Float)
       → office_split_answer room w x o e t ≡ shown (λ s. Splits.Is (seen_split s)) Splits.Refused (9 unless readable room w x else office_split (limits room) (decode room w x) o e t)
@@ -94,16 +81,6 @@ module _ (room w : List ℕ) (x : List Float) (o : ℕ) where
         let m = decode room w x in
         office-walk (face_walk m (body_for m o b)) (body_faces m (body_for m o b)) (length out) (9 unless readable room w x) (office_refusal o) (8 unless reach room FACES face_marks) _
         (faces-are room w x (body_for m o b) face_marks out)
-
-    pub edges-told : (face_marks edge_marks out : List ℕ)
-        → WalkIs
-        (on_list (length out) (9 unless readable room w x then office_refusal o then 8 unless reach room FACES face_marks && reach room EDGES edge_marks else body_edges (decode room w x) (body_for (decode room w x) o b)))
-        (office_edges_number room w x o b face_marks edge_marks out) (office_edges_handed room w x o b face_marks edge_marks out)
-    unfolding office_edges_number office_edges_handed by_office edges_number edges_handed
-    edges-told face_marks edge_marks out =
-        let m = decode room w x in
-        office-walk (edge_walk m (body_for m o b)) (body_edges m (body_for m o b)) (length out) (9 unless readable room w x) (office_refusal o) (8 unless reach room FACES face_marks && reach room EDGES edge_marks) _
-        (edges_are room w x (body_for m o b) face_marks edge_marks out)
 
     pub vertices-told : (face_marks edge_marks vertex_marks out : List ℕ)
         → WalkIs

@@ -3,4 +3,3 @@ pub mod Sets
 pub mod Told
 pub mod Same
 pub mod Statements
-pub mod Evaluated

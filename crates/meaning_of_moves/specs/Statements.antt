@@ -1,16 +1,14 @@
 -- Moving a stone must not change its weight (W-214, whose words are quoted), as the station's call answers it, for any lent memory. Assumes nothing.
 use Rattle.std.specs.Prelude.{ℕ, ◌≡◌, true, List, map, Float}
 use Rattle.float_vectors.specs.declared.vector.Point3.{Point3}
-use Rattle.meaning.specs.Lists.{all}
-use Rattle.meaning.specs.Model.{Limits, point_of}
+use Rattle.meaning.specs.Model.{Limits}
 use Rattle.meaning.specs.Walks.{vertex_walk}
 use Rattle.meaning.specs.Split.{Cut, after_all}
 use Rattle.meaning.specs.Offices.{OfficeCut}
-use Rattle.meaning_sheets.specs.Sheets.{Corner, corner, grid_point, six_volume, stone_refusal}
+use Rattle.meaning_sheets.specs.Sheets.{Corner, six_volume, stone_refusal}
 use Rattle.meaning_shift.specs.Moving.{Movable, Shifted, moved}
-use Rattle.meaning_shift.proofs.Grid.{float-shift}
 use Rattle.meaning_shift.proofs.Statements.{splits-keep-it-movable}
-use Rattle.meaning_of_calls.specs.Sheets.{take_same, sheet-same}
+use Rattle.meaning_of_calls.proofs.Sheets.{take_same, sheet-same}
 use Rattle.memory_layout.specs.Names.{FACES}
 use Rattle.memory_layout.specs.Decode.{decode}
 use Rattle.memory_layout.specs.Readable.{readable}
@@ -52,20 +50,6 @@ module _ (y : Limits) (room : List ℕ) (before : Lent) (b r : ℕ) (k : Movable
 
     pub sets_move : (point : ℕ → Point3) → Moved room before (body_set room before b point) b point
     sets_move point = Sets.body-moved y room before b point read k.formed k.there
-
-    -- 4. so the call answers behind them what it answered before
-    pub setting-keeps-the-answer : (t : Corner) (point : ℕ → Point3) → Shifted (lent_model room before) b t point
-        → (o : ℕ) (face_marks face_marks' : List ℕ) → reach room FACES face_marks' ≡ reach room FACES face_marks → SameTake room before (body_set room before b point) o b face_marks face_marks'
-    setting-keeps-the-answer t point d = moving-keeps-the-answer (body_set room before b point) t point d (sets_move point)
-
-    -- 5. The same where a vector on the grid is added in floats to every vertex of the body
-    pub adding-keeps-the-answer : (d : Point3) → grid_point d ≡ true
-        → all (λ v. grid_point (point_of (lent_model room before) v)) (vertex_walk (lent_model room before) b) ≡ true
-        → all (λ v. grid_point (moved d (point_of (lent_model room before) v))) (vertex_walk (lent_model room before) b) ≡ true
-        → (o : ℕ) (face_marks face_marks' : List ℕ) → reach room FACES face_marks' ≡ reach room FACES face_marks
-        → SameTake room before (body_set room before b (λ v. moved d (point_of (lent_model room before) v))) o b face_marks face_marks'
-    adding-keeps-the-answer d g here there =
-        setting-keeps-the-answer (corner d) (λ v. moved d (point_of (lent_model room before) v)) (float-shift (lent_model room before) b d g here there)
 
 -- ---- what the request takes stays met by a split
 

@@ -13,7 +13,7 @@ use Rattle.walk_answers.specs.Calls.{reach}
 use Rattle.split_witness.specs.Stone.{stone_room, stone_words, stone_reals, stone-readable, stone-decodes}
 use Rattle.meaning_of_moves.specs.Moves.{Lent, lent_model, SameTake, body_set}
 use Rattle.meaning_of_moves.specs.Same.{same-movable}
-use Rattle.meaning_of_moves.specs.Statements.{adding-keeps-the-answer}
+use Rattle.meaning_of_moves.proofs.Adding.{adding-keeps-the-answer}
 
 abbrev laid : Lent
 laid = record { words = stone_words; reals = stone_reals }

@@ -1,0 +1,4 @@
+pub mod Entries
+pub mod Offices
+pub mod Sheets
+pub mod Isolated
