@@ -5,7 +5,7 @@ use Rattle.meaning.specs.Faults.{kept}
 use Rattle.meaning.specs.Offices.{body_for}
 use Rattle.meaning_isolation.specs.Told.{SameAnswers}
 use Rattle.meaning_isolation.specs.Offices.{OfficeAlike, OthersDiffer}
-use Rattle.meaning_isolation.specs.Statements.{others-make-no-difference}
+use Rattle.meaning_isolation.proofs.Others.{others-make-no-difference}
 use Rattle.meaning_isolation.proofs.Statements.{office-answers}
 use Rattle.memory_layout.specs.Decode.{decode}
 use Rattle.memory_layout.specs.Readable.{readable}

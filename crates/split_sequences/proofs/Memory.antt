@@ -9,7 +9,8 @@ use Rattle.memory_layout.specs.Decode.{decode}
 use Rattle.memory_layout.specs.Readable.{readable}
 use Rattle.memory_layout.specs.Limits.{limits}
 use Rattle.meaning_split_laws.specs.Terms.{itself, split_edges, Restored, euler_number}
-use Rattle.meaning_split_laws.specs.Statements.{empty-report-stays, version-stays}
+use Rattle.meaning_split_laws.specs.Statements.{empty-report-stays}
+use Rattle.meaning_split_laws.proofs.Version.{version-stays}
 use Rattle.meaning_split_laws.proofs.Statements.{euler-number-stays, gives_back}
 use Rattle.split_sequences.specs.Sequence.{calls_words, calls_reals, calls_edges}
 use Rattle.split_sequences.specs.Same.{same-formed}
