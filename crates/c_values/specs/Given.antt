@@ -6,7 +6,7 @@ use Rattle.meaning.specs.Edits.{tolerance_ok}
 use Rattle.memory_layout.specs.Names.{AT_BODY_KIND, AT_REGION_BODY, AT_REGION_SOLID, AT_SHELL_REGION, AT_FACE_FRONT, AT_FACE_BACK, AT_FACE_SURFACE, AT_FACE_SENSE, AT_LOOP_FACE, AT_FIN_LOOP, AT_FIN_EDGE, AT_FIN_SENSE, AT_FIN_PCURVE, AT_EDGE_START, AT_EDGE_END, AT_EDGE_CURVE, AT_EDGE_TOLERANCE, AT_VERTEX_TOLERANCE, AT_CARRIER_TAG, FLOAT_EDGE_TOLERANCE, FLOAT_VERTEX_POINT, FLOAT_VERTEX_TOLERANCE}
 use Rattle.memory_layout.specs.Layout.{word, real}
 use Rattle.memory_layout.specs.Decode.{maybe_at, flag_at, sense_of, kind_of, tolerance_of, point_at, carrier_of}
-use Rattle.memory_records.specs.declared.records.Ref.{Ref}
+use Rattle.memory_records.specs.Seen.{Ref}
 use Rattle.memory_contains.specs.declared.EntityRef.{EntityRef}
 use Rattle.memory_contains.specs.declared.EntityRef.TheVariants as Entities
 use Rattle.memory_records.specs.Seen.{seen_ref, seen_kind, seen_sense}

@@ -12,15 +12,14 @@ ghost use Rattle.c_lent.specs.Lent.{Crosses, alone};
 ghost use Rattle.c_values.specs.Crossing.{tips_value};
 
 use edit_core::Inserted;
-use memory_records::records::Ref;
 use walk_fin_ends::Tips;
 
-fn ref_value(id: Ref) -> [u32; 2]
+fn ref_value(id: Option<u32>) -> [u32; 2]
     ensures { result ≡ ref_tag id ∷ ref_id id ∷ [] }
 {
     match id {
-        Ref::None => [0, 0],
-        Ref::Is(i) => [1, i],
+        None => [0, 0],
+        Some(i) => [1, i],
     }
 }
 

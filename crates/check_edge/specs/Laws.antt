@@ -5,7 +5,7 @@ use Rattle.std.proofs.Common.{◌∙◌}
 use Rattle.std.proofs.Math.Bool.{true, false}
 use Rattle.std.proofs.Math.Option.{Option, none, some}
 use Rattle.geom_lines_planes.specs.Geometry.{nearest, effective}
-use Rattle.geom_carriers.specs.declared.Found.{Found}
+use Rattle.geom_carriers.specs.Found.{Found}
 use Rattle.geom_carriers.specs.Queries.{the_line}
 use Rattle.meaning.specs.Lists.{run, the, listed, joined}
 use Rattle.meaning.specs.Model.{Model, has, edge, vertex, point_of, curve, surface}
@@ -14,8 +14,8 @@ use Rattle.meaning_list_laws.specs.Lists.{joined-append}
 use Rattle.memory_records.specs.declared.records.Vertex.{Vertex}
 use Rattle.memory_records.specs.Seen.{seen_vertex}
 use Rattle.check_points.specs.Points.{curve_findings, surface_findings, sample_findings, samples_findings}
-use Rattle.check_ends.specs.declared.Param.{Param}
-use Rattle.check_ends.specs.declared.Param.TheVariants as Params
+use Rattle.check_ends.specs.Ends.{Param}
+use Rattle.std.specs.Prelude.{Some, None}
 use Rattle.check_ends.specs.Ends.{param_at, ringed}
 use Rattle.check_edge.specs.Edge.{end_at, end_findings, ends_findings, param_of, between, samples_between, rim_findings}
 
@@ -33,15 +33,15 @@ module _ (m : Model) (curve surface : Found) (tolerance : Float) (e v : ℕ) whe
 -- ---- samples, by the cases of both parameters
 
 module _ (curve surface : Found) (tolerance : Float) (n e : ℕ) (p q : Param) where
-  pub between_none : p ≡ Params.None → between curve surface tolerance n e p q ≡ []
+  pub between_none : p ≡ None → between curve surface tolerance n e p q ≡ []
   unfolding between
   between_none h = rw h
 
-  pub between-one : (t0 : Float) → p ≡ Params.At t0 → q ≡ Params.None → between curve surface tolerance n e p q ≡ []
+  pub between-one : (t0 : Float) → p ≡ Some t0 → q ≡ None → between curve surface tolerance n e p q ≡ []
   unfolding between
   between-one t0 h g = rw (h, g)
 
-  pub between-both : (t0 t1 : Float) → p ≡ Params.At t0 → q ≡ Params.At t1 → between curve surface tolerance n e p q ≡ samples_findings curve surface tolerance e t0 t1 n
+  pub between-both : (t0 t1 : Float) → p ≡ Some t0 → q ≡ Some t1 → between curve surface tolerance n e p q ≡ samples_findings curve surface tolerance e t0 t1 n
   unfolding between
   between-both t0 t1 h g = rw (h, g)
 
@@ -58,7 +58,7 @@ module _ (m : Model) (n e c s : ℕ) where
 
   choose : (p q : Bool) (t0 t1 : Float)
       → cond (p && q) (joined (λ k. sample_test m e c s (sample_at t0 t1 n k)) (run 1 n)) []
-      ≡ between (curve m c) (surface m s) tolerance n e (cond p (Params.At t0) Params.None) (cond q (Params.At t1) Params.None)
+      ≡ between (curve m c) (surface m s) tolerance n e (cond p (Some t0) None) (cond q (Some t1) None)
   unfolding between samples_findings sample_test sample_findings point_on_surface surface_findings
   choose true true t0 t1 = refl
   choose true false t0 t1 = refl

@@ -9,21 +9,21 @@ ghost use Rattle.check_reasons.specs.Log.{Noted, Enough};
 ghost use Rattle.check_ends.specs.Ends.{ref_of};
 ghost use Rattle.check_edge.specs.Edge.{end_at, end_findings, param_of, between, ends_findings, samples_between, rim_findings};
 
-use check_ends::{Param, parameter_at, ring};
+use check_ends::{parameter_at, ring};
 use check_points::{curve_test, point_on_surface, sample_tests};
 use check_reasons::{Tally, VERTEX, done};
 use float_vectors::vector::Point3;
-use geom_carriers::Found;
+use geom_carriers::Carrier;
 use memory_layout::names::VERTICES;
 use memory_reads::vertex_at;
-use memory_records::records::{Edge, Ref, in_effect};
+use memory_records::records::{Edge, in_effect};
 
 // The vertex v at p, with its own tolerance, against the curve of the edge e, then against the surface.
 fn end_at(
     nums: &mut [u32],
     t: Tally,
-    curve: Found,
-    surface: Found,
+    curve: Option<Carrier>,
+    surface: Option<Carrier>,
     p: Point3,
     own: f64,
     tol: f64,
@@ -44,8 +44,8 @@ fn end_test(
     reals: &[f64],
     nums: &mut [u32],
     t: Tally,
-    curve: Found,
-    surface: Found,
+    curve: Option<Carrier>,
+    surface: Option<Carrier>,
     tol: f64,
     e: u32,
     v: u32,
@@ -73,19 +73,19 @@ fn end_of(
     reals: &[f64],
     nums: &mut [u32],
     t: Tally,
-    curve: Found,
-    surface: Found,
+    curve: Option<Carrier>,
+    surface: Option<Carrier>,
     tol: f64,
     e: u32,
-    end: Ref,
+    end: Option<u32>,
 ) -> Tally
     requires sized { Sized room.now words.now reals.now }
     requires enough { Enough t (joined (end_findings (decode room.now words.now reals.now) curve surface tol e) (listed (ref_of end))) }
     ensures { Noted (joined (end_findings (decode room.now words.now reals.now) curve surface tol e) (listed (ref_of end))) nums.old t nums.new result }
 {
     match end {
-        Ref::None => t,
-        Ref::Is(v) => end_test(room, words, reals, nums, t, curve, surface, tol, e, v),
+        None => t,
+        Some(v) => end_test(room, words, reals, nums, t, curve, surface, tol, e, v),
     }
 }
 
@@ -96,8 +96,8 @@ fn ends(
     reals: &[f64],
     nums: &mut [u32],
     t: Tally,
-    curve: Found,
-    surface: Found,
+    curve: Option<Carrier>,
+    surface: Option<Carrier>,
     tol: f64,
     e: u32,
     edge: Edge,
@@ -112,13 +112,19 @@ fn ends(
     end_of(room, words, reals, nums, a, curve, surface, tol, e, end)
 }
 
-fn parameter(room: &[usize; 10], words: &[u32], reals: &[f64], curve: Found, end: Ref) -> Param
+fn parameter(
+    room: &[usize; 10],
+    words: &[u32],
+    reals: &[f64],
+    curve: Option<Carrier>,
+    end: Option<u32>,
+) -> Option<f64>
     requires { Sized room.now words.now reals.now }
     ensures { result ≡ param_of (decode room.now words.now reals.now) curve (ref_of end) }
 {
     match end {
-        Ref::None => Param::None,
-        Ref::Is(v) => parameter_at(room, words, reals, curve, v),
+        None => None,
+        Some(v) => parameter_at(room, words, reals, curve, v),
     }
 }
 
@@ -126,23 +132,23 @@ fn parameter(room: &[usize; 10], words: &[u32], reals: &[f64], curve: Found, end
 fn samples_between(
     nums: &mut [u32],
     t: Tally,
-    curve: Found,
-    surface: Found,
+    curve: Option<Carrier>,
+    surface: Option<Carrier>,
     tol: f64,
     n: u32,
     e: u32,
-    start: Param,
-    end: Param,
+    start: Option<f64>,
+    end: Option<f64>,
 ) -> Tally
     requires n_bound { n ≤ 255 }
     requires enough { Enough t (between curve surface tol n e start end) }
     ensures { Noted (between curve surface tol n e start end) nums.old t nums.new result }
 {
     match start {
-        Param::None => t,
-        Param::At(t0) => match end {
-            Param::None => t,
-            Param::At(t1) => sample_tests(nums, t, curve, surface, tol, t0, t1, n, e),
+        None => t,
+        Some(t0) => match end {
+            None => t,
+            Some(t1) => sample_tests(nums, t, curve, surface, tol, t0, t1, n, e),
         },
     }
 }
@@ -153,8 +159,8 @@ fn samples(
     reals: &[f64],
     nums: &mut [u32],
     t: Tally,
-    curve: Found,
-    surface: Found,
+    curve: Option<Carrier>,
+    surface: Option<Carrier>,
     tol: f64,
     n: u32,
     e: u32,
@@ -182,8 +188,8 @@ pub fn rim(
     reals: &[f64],
     nums: &mut [u32],
     t: Tally,
-    curve: Found,
-    surface: Found,
+    curve: Option<Carrier>,
+    surface: Option<Carrier>,
     tol: f64,
     n: u32,
     e: u32,

@@ -14,40 +14,39 @@ ghost use Rattle.check_reasons.specs.Log.{Noted, Enough};
 ghost use Rattle.check_ends.specs.Ends.{ref_of, param_at, ringed};
 
 use check_reasons::{Tally, skip};
-use geom_carriers::{Carrier, Found};
-use geom_queries::{Projected, project_to_curve};
+use geom_carriers::Carrier;
+use geom_queries::project_to_curve;
 use memory_layout::names::VERTICES;
 use memory_reads::vertex_at;
-use memory_records::records::{Edge, Ref};
-
-// The parameter of an end on the curve, where it projected.
-#[derive(Clone, Copy)]
-pub enum Param {
-    None,
-    At(f64),
-}
+use memory_records::records::Edge;
 
 // The parameter of a vertex on the curve, where it exists and projected.
-pub fn parameter_at(room: &[usize; 10], words: &[u32], reals: &[f64], curve: Found, v: u32) -> Param
+pub fn parameter_at(
+    room: &[usize; 10],
+    words: &[u32],
+    reals: &[f64],
+    curve: Option<Carrier>,
+    v: u32,
+) -> Option<f64>
     requires { Sized room.now words.now reals.now }
     ensures { result ≡ param_at (decode room.now words.now reals.now) curve v }
 {
     if words[VERTICES] <= v {
-        return Param::None;
+        return None;
     }
     match project_to_curve(curve, vertex_at(room, words, reals, v as usize).point) {
-        Projected::Refused(_) => Param::None,
-        Projected::At(near) => Param::At(near.param),
+        Err(_) => None,
+        Ok(near) => Some(near.param),
     }
 }
 
 // A curve that is there and no line.
-fn no_line(found: Found) -> bool
+fn no_line(found: Option<Carrier>) -> bool
     ensures { result ≡ no_line found }
 {
     match found {
-        Found::Missing => false,
-        Found::There(carrier) => match carrier {
+        None => false,
+        Some(carrier) => match carrier {
             Carrier::Line(_) => false,
             Carrier::Plane(_) => true,
             Carrier::Other => true,
@@ -56,12 +55,12 @@ fn no_line(found: Found) -> bool
 }
 
 // A surface that is there and no plane.
-fn no_plane(found: Found) -> bool
+fn no_plane(found: Option<Carrier>) -> bool
     ensures { result ≡ no_plane found }
 {
     match found {
-        Found::Missing => false,
-        Found::There(carrier) => match carrier {
+        None => false,
+        Some(carrier) => match carrier {
             Carrier::Line(_) => true,
             Carrier::Plane(_) => false,
             Carrier::Other => true,
@@ -69,17 +68,17 @@ fn no_plane(found: Found) -> bool
     }
 }
 
-pub fn is_none(end: Ref) -> bool
+pub fn is_none(end: Option<u32>) -> bool
     ensures { result ≡ not (is_some (ref_of end)) }
 {
     match end {
-        Ref::None => true,
-        Ref::Is(_) => false,
+        None => true,
+        Some(_) => false,
     }
 }
 
 // A check not made, where an edge has neither end and its curve is no line or the surface no plane.
-pub fn ring(t: Tally, curve: Found, surface: Found, edge: Edge) -> Tally
+pub fn ring(t: Tally, curve: Option<Carrier>, surface: Option<Carrier>, edge: Edge) -> Tally
     requires { Enough t (only_if (ringed curve surface (ref_of edge.start) (ref_of edge.end)) skipped) }
     ensures { (d : List ℕ) → Noted (only_if (ringed curve surface (ref_of edge.start) (ref_of edge.end)) skipped) d t d result }
 {

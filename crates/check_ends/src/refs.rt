@@ -3,20 +3,18 @@ ghost use Rattle.std.specs.Prelude.{◌≡◌};
 ghost use Rattle.meaning.specs.Lists.{same};
 ghost use Rattle.check_ends.specs.Ends.{ref_of};
 
-use memory_records::records::Ref;
-
 // None against none is the same.
-pub fn same_ref(a: Ref, b: Ref) -> bool
+pub fn same_ref(a: Option<u32>, b: Option<u32>) -> bool
     ensures { result ≡ same (ref_of a) (ref_of b) }
 {
     match a {
-        Ref::None => match b {
-            Ref::None => true,
-            Ref::Is(_) => false,
+        None => match b {
+            None => true,
+            Some(_) => false,
         },
-        Ref::Is(i) => match b {
-            Ref::None => false,
-            Ref::Is(j) => i == j,
+        Some(i) => match b {
+            None => false,
+            Some(j) => i == j,
         },
     }
 }

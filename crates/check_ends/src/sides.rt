@@ -4,23 +4,21 @@ ghost use Rattle.meaning.specs.Lists.{is};
 ghost use Rattle.meaning.specs.Faults.{checked_from};
 ghost use Rattle.check_ends.specs.Ends.{ref_of};
 
-use memory_records::records::Ref;
-
-pub fn is_shell(side: Ref, s: u32) -> bool
+pub fn is_shell(side: Option<u32>, s: u32) -> bool
     ensures { result ≡ is (ref_of side) s }
 {
     match side {
-        Ref::None => false,
-        Ref::Is(i) => i == s,
+        None => false,
+        Some(i) => i == s,
     }
 }
 
 // A face is checked from its front shell, or from each shell that lists it where front is none.
-pub fn checked_from(front: Ref, s: u32) -> bool
+pub fn checked_from(front: Option<u32>, s: u32) -> bool
     ensures { result ≡ checked_from (ref_of front) s }
 {
     match front {
-        Ref::None => true,
-        Ref::Is(own) => own == s,
+        None => true,
+        Some(own) => own == s,
     }
 }

@@ -38,10 +38,8 @@ fn all_loops(
     ensures { Noted (joined (loop_findings (decode room.now words.now reals.now) (options geometry n) f) loops.now) nums.old t nums.new result }
 {
     let mut tally = t;
-    let mut k = 0;
-    while k < loops.len() {
-        tally = loop_(room, words, reals, nums, tally, geometry, n, f, loops[k]);
-        k += 1;
+    for l in loops {
+        tally = loop_(room, words, reals, nums, tally, geometry, n, f, *l);
     }
     tally
 }

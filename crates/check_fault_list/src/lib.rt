@@ -33,11 +33,8 @@ fn write(list: &mut [Fault], nums: &[u32], n: usize)
     requires { (n ≤ length list.old) × (n * 4 ≤ length nums.now) }
     ensures { list.new ≡ written list.old nums.now n }
 {
-    let mut i = 0;
-    while i < n {
-        let f = told_at(nums, i);
-        list[i] = f;
-        i = i + 1;
+    for i in 0..n {
+        list[i] = told_at(nums, i);
     }
 }
 

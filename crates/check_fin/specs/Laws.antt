@@ -5,13 +5,13 @@ use Rattle.std.proofs.Common.{◌∙◌}
 use Rattle.std.proofs.Math.Bool.{true, false}
 use Rattle.std.proofs.Math.Option.{Option, some}
 use Rattle.geom_lines_planes.specs.Geometry.{effective}
-use Rattle.geom_carriers.specs.declared.Found.{Found}
+use Rattle.geom_carriers.specs.Found.{Found}
 use Rattle.meaning.specs.Lists.{member, listed, joined}
 use Rattle.meaning.specs.Model.{Model, has, fin, edge, curve, surface}
 use Rattle.meaning.specs.Faults.{only_if, fault, carried, fin_findings}
 use Rattle.meaning_list_laws.specs.Lists.{joined-append}
-use Rattle.memory_records.specs.declared.records.Ref.{Ref}
-use Rattle.memory_records.specs.declared.records.Ref.TheVariants as Refs
+use Rattle.memory_records.specs.Seen.{Ref}
+use Rattle.std.specs.Prelude.{Some, None}
 use Rattle.memory_records.specs.declared.records.Fin.{Fin}
 use Rattle.memory_records.specs.declared.records.Edge.{Edge}
 use Rattle.memory_records.specs.Seen.{seen_ref, seen_fin, seen_edge}
@@ -71,15 +71,15 @@ module _ (m : Model) (n e : ℕ) where
     unfolding seen_edge
     curve-told = sym (ref_back (edge m e).curve) ∙ ap (λ (y : Edge). ref_of y.curve) (sym h)
 
-    pub curve-none : x.curve ≡ Refs.None → carried m n e (edge m e).curve (ref_of r) ≡ fault 21 e ∷ []
+    pub curve-none : x.curve ≡ None → carried m n e (edge m e).curve (ref_of r) ≡ fault 21 e ∷ []
     unfolding carried
     curve-none q = ap (λ (o : Option ℕ). carried m n e o (ref_of r)) (curve-told ∙ ap ref_of q)
 
-    pub surface-none : (c : ℕ) → x.curve ≡ Refs.Is c → r ≡ Refs.None → carried m n e (edge m e).curve (ref_of r) ≡ []
+    pub surface-none : (c : ℕ) → x.curve ≡ Some c → r ≡ None → carried m n e (edge m e).curve (ref_of r) ≡ []
     unfolding carried
     surface-none c q p = ap (λ (o : Option ℕ). carried m n e o (ref_of r)) (curve-told ∙ ap ref_of q) ∙ ap (λ (o : Option ℕ). carried m n e (some c) o) (ap ref_of p)
 
-    pub carriers-both : (c s : ℕ) → x.curve ≡ Refs.Is c → r ≡ Refs.Is s → carried m n e (edge m e).curve (ref_of r) ≡ carried m n e (some c) (some s)
+    pub carriers-both : (c s : ℕ) → x.curve ≡ Some c → r ≡ Some s → carried m n e (edge m e).curve (ref_of r) ≡ carried m n e (some c) (some s)
     carriers-both c s q p = ap (λ (o : Option ℕ). carried m n e o (ref_of r)) (curve-told ∙ ap ref_of q) ∙ ap (λ (o : Option ℕ). carried m n e (some c) o) (ap ref_of p)
 
 module _ (m : Model) (n : ℕ) (surface : Option ℕ) (i : ℕ) where

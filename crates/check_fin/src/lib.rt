@@ -20,17 +20,17 @@ use memory_layout::names::{EDGE_FINS, EDGES, FINS, VERTICES};
 use memory_lists::list;
 use memory_reads::carriers::{curve_found, surface_found};
 use memory_reads::{edge_at, fin_at};
-use memory_records::records::{Ref, in_effect};
+use memory_records::records::in_effect;
 use walk_marks::has;
 
 // Reason 17 on the edge e where an end of it names no vertex; there are `used`.
-fn end_there(nums: &mut [u32], t: Tally, used: u32, e: u32, end: Ref) -> Tally
+fn end_there(nums: &mut [u32], t: Tally, used: u32, e: u32, end: Option<u32>) -> Tally
     requires { Enough t (joined (lacking used e) (listed (ref_of end))) }
     ensures { Noted (joined (lacking used e) (listed (ref_of end))) nums.old t nums.new result }
 {
     match end {
-        Ref::None => t,
-        Ref::Is(v) => note_if(nums, t, !(v < used), 17, EDGE, e),
+        None => t,
+        Some(v) => note_if(nums, t, !(v < used), 17, EDGE, e),
     }
 }
 
@@ -139,7 +139,7 @@ fn edge_geometry(
     t: Tally,
     n: u32,
     e: u32,
-    surface: Ref,
+    surface: Option<u32>,
 ) -> Tally
     requires fit { Fit room.now words.now reals.now }
     requires n_bound { (n ≤ 255) × (e < word words.now EDGES) }
@@ -149,10 +149,10 @@ fn edge_geometry(
     let edge = edge_at(room, words, reals, e as usize);
     let curve = edge.curve;
     match curve {
-        Ref::None => note(nums, t, 21, EDGE, e),
-        Ref::Is(c) => match surface {
-            Ref::None => t,
-            Ref::Is(s) => carried_on(room, words, reals, nums, t, n, e, c, s),
+        None => note(nums, t, 21, EDGE, e),
+        Some(c) => match surface {
+            None => t,
+            Some(s) => carried_on(room, words, reals, nums, t, n, e, c, s),
         },
     }
 }
@@ -165,7 +165,7 @@ pub fn fin_geometry(
     nums: &mut [u32],
     t: Tally,
     n: u32,
-    surface: Ref,
+    surface: Option<u32>,
     i: u32,
 ) -> Tally
     requires fit { Fit room.now words.now reals.now }

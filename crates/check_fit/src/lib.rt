@@ -22,7 +22,6 @@ use memory_layout::names::{
 };
 use memory_lists::list;
 use memory_reads::face_at;
-use memory_records::records::Ref;
 use walk_marks::has;
 use walk_paths::face_path;
 use walk_sources::part;
@@ -34,11 +33,9 @@ fn any_face(room: &[usize; 10], words: &[u32], shells: &[u32]) -> bool
     ensures { result ≡ any (faced_in room.now words.now) shells.now }
 {
     let mut found = false;
-    let mut k = 0;
-    while k < shells.len() {
-        let faces = list(room, words, SHELL_FACES, shells[k] as usize);
+    for shell in shells {
+        let faces = list(room, words, SHELL_FACES, *shell as usize);
         found = found | (faces.len() != 0);
-        k += 1;
     }
     found
 }
@@ -62,10 +59,8 @@ fn solid_face(room: &[usize; 10], words: &[u32], regions: &[u32]) -> bool
     ensures { result ≡ any (solid_in room.now words.now) regions.now }
 {
     let mut found = false;
-    let mut k = 0;
-    while k < regions.len() {
-        found = found | solid_region(room, words, regions[k] as usize);
-        k += 1;
+    for region in regions {
+        found = found | solid_region(room, words, *region as usize);
     }
     found
 }
@@ -84,13 +79,13 @@ fn own_shell(room: &[usize; 10], words: &[u32], path: &[u32], f: u32, s: u32) ->
 }
 
 // So does the shell on a side of the face f, if there is one.
-fn own_side(room: &[usize; 10], words: &[u32], path: &[u32], f: u32, side: Ref) -> bool
+fn own_side(room: &[usize; 10], words: &[u32], path: &[u32], f: u32, side: Option<u32>) -> bool
     requires { Lists room.now words.now }
     ensures { result ≡ side_in room.now words.now path.now f (ref_of side) }
 {
     match side {
-        Ref::None => true,
-        Ref::Is(s) => own_shell(room, words, path, f, s),
+        None => true,
+        Some(s) => own_shell(room, words, path, f, s),
     }
 }
 
@@ -115,10 +110,8 @@ fn own_faces(room: &[usize; 10], words: &[u32], path: &[u32], ids: &[u32]) -> bo
     ensures { result ≡ all (owns_in room.now words.now path.now) ids.now }
 {
     let mut ok = true;
-    let mut k = 0;
-    while k < ids.len() {
-        ok = ok & own_sides(room, words, path, ids[k]);
-        k += 1;
+    for id in ids {
+        ok = ok & own_sides(room, words, path, *id);
     }
     ok
 }
@@ -132,11 +125,9 @@ fn own_path(room: &[usize; 10], words: &[u32], path: &[u32]) -> bool
 {
     let mut buf = [0u32; 1024];
     let mut ok = true;
-    let mut p = 0;
-    while p < path.len() {
-        let n = part(room, words, path[p], &mut buf);
+    for source in path {
+        let n = part(room, words, *source, &mut buf);
         ok = ok & own_faces(room, words, path, &buf[..n]);
-        p += 1;
     }
     ok
 }

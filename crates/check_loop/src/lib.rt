@@ -19,7 +19,6 @@ use check_reasons::{FACE, LOOP, Tally, done, note, note_if};
 use memory_layout::names::{LOOP_FINS, LOOPS};
 use memory_lists::list;
 use memory_reads::{face_at, loop_at};
-use memory_records::records::Ref;
 
 // The fins that the loop l lists.
 fn all_fins(
@@ -36,10 +35,8 @@ fn all_fins(
     ensures { Noted (joined (fin_findings (decode room.now words.now reals.now) l) fins.now) nums.old t nums.new result }
 {
     let mut tally = t;
-    let mut k = 0;
-    while k < fins.len() {
-        tally = fin(room, words, reals, nums, tally, l, fins[k]);
-        k += 1;
+    for id in fins {
+        tally = fin(room, words, reals, nums, tally, l, *id);
     }
     tally
 }
@@ -52,7 +49,7 @@ fn all_geometry(
     nums: &mut [u32],
     t: Tally,
     n: u32,
-    surface: Ref,
+    surface: Option<u32>,
     fins: &[u32],
 ) -> Tally
     requires fit { Fit room.now words.now reals.now }
@@ -61,10 +58,8 @@ fn all_geometry(
     ensures { Noted (joined (fin_on (decode room.now words.now reals.now) n (ref_of surface)) fins.now) nums.old t nums.new result }
 {
     let mut tally = t;
-    let mut k = 0;
-    while k < fins.len() {
-        tally = fin_geometry(room, words, reals, nums, tally, n, surface, fins[k]);
-        k += 1;
+    for id in fins {
+        tally = fin_geometry(room, words, reals, nums, tally, n, surface, *id);
     }
     tally
 }

@@ -115,10 +115,8 @@ fn all_manifold(
     ensures { Noted (joined (manifold_edge (decode room.now words.now reals.now)) ids.now) nums.old t nums.new result }
 {
     let mut tally = t;
-    let mut k = 0;
-    while k < ids.len() {
-        tally = manifold_edge(room, words, reals, nums, tally, ids[k]);
-        k += 1;
+    for id in ids {
+        tally = manifold_edge(room, words, reals, nums, tally, *id);
     }
     tally
 }
@@ -161,14 +159,12 @@ fn manifold_path(
     ensures { Noted (joined (manifold_edge (decode room.now words.now reals.now)) (firsts (ids_of room.now words.now path.now))) nums.old t nums.new result }
 {
     let mut tally = t;
-    let mut p = 0;
-    while p < path.len() {
+    for p in 0..path.len() {
         if done(tally) {
             return tally;
         }
         let n = new_ids(room, words, path, p, marks, buf);
         tally = all_manifold(room, words, reals, nums, tally, &buf[..n]);
-        p += 1;
     }
     tally
 }

@@ -8,7 +8,7 @@ use Rattle.std.proofs.Math.Option.{Option}
 use Rattle.std.proofs.Math.ListN.{get_or-append}
 use Rattle.std.proofs.Math.Seq.{get_or-append_seam}
 use Rattle.meaning.specs.Lists.{same, rotated}
-use Rattle.meaning.specs.Model.{Model, Sense, positive, negative, Fin, Edge, has, fin, edge}
+use Rattle.meaning.specs.Model.{Model, Sense, positive, negative, Edge, has, fin, edge}
 use Rattle.meaning.specs.Walks.{directed, ends_of, readable_fin}
 use Rattle.meaning.specs.Faults.{Finding, meets_next, open_at, opens}
 use Rattle.meaning_list_laws.specs.Tests.{and_both}

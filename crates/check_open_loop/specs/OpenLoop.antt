@@ -3,7 +3,7 @@ use Rattle.std.specs.Prelude.{ℕ, Bool, not, ◌&&◌}
 use Rattle.meaning.specs.Model.{Model}
 use Rattle.meaning.specs.Walks.{Ends, readable_fin}
 use Rattle.meaning.specs.Faults.{meets_next}
-use Rattle.memory_records.specs.declared.records.Ref.{Ref}
+use Rattle.memory_records.specs.Seen.{Ref}
 use Rattle.memory_records.specs.declared.records.Sense.{Sense}
 use Rattle.memory_records.specs.declared.records.Sense.TheVariants as Senses
 use Rattle.memory_records.specs.Seen.{seen_ref}

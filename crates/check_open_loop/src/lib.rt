@@ -14,13 +14,13 @@ use check_ends::refs::same_ref;
 use check_reasons::{FIN, Tally, done, note_if};
 use memory_layout::names::{EDGES, FINS};
 use memory_reads::{edge_at, fin_at};
-use memory_records::records::{Ref, Sense};
+use memory_records::records::Sense;
 
 // Where a fin starts and ends.
 #[derive(Clone, Copy)]
 pub struct FinEnds {
-    pub start: Ref,
-    pub end: Ref,
+    pub start: Option<u32>,
+    pub end: Option<u32>,
 }
 
 // Do the fin and its edge exist?
@@ -35,7 +35,7 @@ fn readable_fin(room: &[usize; 10], words: &[u32], i: u32) -> bool
 }
 
 // The ends of an edge, in a fin's direction.
-fn directed(sense: Sense, start: Ref, end: Ref) -> FinEnds
+fn directed(sense: Sense, start: Option<u32>, end: Option<u32>) -> FinEnds
     ensures { result ≡ directed_refs sense start end }
 {
     match sense {
@@ -124,11 +124,9 @@ pub fn open_loop(
     ensures { Noted (opens (decode room.now words.now reals.now) fins.now (rotated fins.now)) nums.old t nums.new result }
 {
     let mut tally = t;
-    let mut k = 0;
-    while k < fins.len() {
+    for (k, id) in fins.iter().enumerate() {
         let next = next_of(fins, k);
-        tally = open_at(room, words, reals, nums, tally, fins[k], next);
-        k += 1;
+        tally = open_at(room, words, reals, nums, tally, *id, next);
     }
     tally
 }

@@ -8,16 +8,16 @@ use Rattle.std.proofs.Math.Seq.{get_or-append_seam}
 use Rattle.meaning_list_laws.specs.Lists.{length_run}
 use Rattle.float_vectors.specs.declared.vector.Point3.{Point3}
 use Rattle.geom_lines_planes.specs.Refuse.{answer}
-use Rattle.geom_lines_planes.specs.Laws.{Cases, Gives, Refuses, read-value, read-refusal}
+use Rattle.geom_lines_planes.specs.Laws.{Cases, Gives, Refuses, read-value, read-refusal, result-cases, read-number}
 use Rattle.geom_lines_planes.specs.Geometry.{line_point, plane_distance, effective}
-use Rattle.geom_carriers.specs.declared.Found.{Found}
-use Rattle.geom_queries.specs.declared.Evaluated.{Evaluated}
-use Rattle.geom_queries.specs.declared.Evaluated.TheVariants as Evaluations
+use Rattle.geom_carriers.specs.Found.{Found}
+use Rattle.geom_queries.specs.Queries.{Evaluated}
+use Rattle.std.specs.Prelude.{Ok, Err}
+use Rattle.geom_lines_planes.specs.declared.refusal.Refusal.{Refusal}
+use Rattle.geom_lines_planes.specs.Refusals.{refused, number_of}
 use Rattle.geom_queries.specs.declared.CurveProjection.{CurveProjection}
-use Rattle.geom_queries.specs.declared.Projected.{Projected}
-use Rattle.geom_queries.specs.declared.Projected.TheVariants as Projections
-use Rattle.geom_queries.specs.declared.Measured.{Measured}
-use Rattle.geom_queries.specs.declared.Measured.TheVariants as Measures
+use Rattle.geom_queries.specs.Queries.{Projected}
+use Rattle.geom_queries.specs.Queries.{Measured}
 use Rattle.geom_carriers.specs.Queries.{the_line, the_plane}
 use Rattle.geom_queries.specs.Queries.{eval_refusal, project_refusal, distance_refusal, eval_curve, projection, project_to_curve, distance_to_surface}
 use Rattle.geom_signs.specs.Signs.{off_curve_s}
@@ -29,31 +29,31 @@ use Rattle.check_points.specs.NoteLaws.{error-coded, error-few, off-coded, off-f
 
 -- ---- a query's answer, read back
 
-projected-cases : Cases Projections.At Projections.Refused
-projected-cases = record { apart = λ b m e. cc; values = λ a b e. cc; numbers = λ m n e. cc }
+projected-cases : Cases {B = CurveProjection} Ok refused
+projected-cases = result-cases
 
-measured-cases : Cases Measures.Is Measures.Refused
-measured-cases = record { apart = λ b m e. cc; values = λ a b e. cc; numbers = λ m n e. cc }
+measured-cases : Cases {B = Float} Ok refused
+measured-cases = result-cases
 
-evaluated-cases : Cases Evaluations.At Evaluations.Refused
-evaluated-cases = record { apart = λ b m e. cc; values = λ a b e. cc; numbers = λ m n e. cc }
+evaluated-cases : Cases {B = Point3} Ok refused
+evaluated-cases = result-cases
 
-pub project-refused : (n m : ℕ) (v : CurveProjection) → answer Projections.At Projections.Refused n v ≡ Projections.Refused m → Refuses n m
+pub project-refused : (n m : ℕ) (v : CurveProjection) → answer Ok refused n v ≡ refused m → Refuses n m
 project-refused = read-refusal projected-cases
 
-pub project-given : (n : ℕ) (v w : CurveProjection) → answer Projections.At Projections.Refused n v ≡ Projections.At w → Gives n v w
+pub project-given : (n : ℕ) (v w : CurveProjection) → answer Ok refused n v ≡ Ok w → Gives n v w
 project-given = read-value projected-cases
 
-pub measure-refused : (n m : ℕ) (v : Float) → answer Measures.Is Measures.Refused n v ≡ Measures.Refused m → Refuses n m
+pub measure-refused : (n m : ℕ) (v : Float) → answer Ok refused n v ≡ refused m → Refuses n m
 measure-refused = read-refusal measured-cases
 
-pub measure-given : (n : ℕ) (v w : Float) → answer Measures.Is Measures.Refused n v ≡ Measures.Is w → Gives n v w
+pub measure-given : (n : ℕ) (v w : Float) → answer Ok refused n v ≡ Ok w → Gives n v w
 measure-given = read-value measured-cases
 
-pub eval-refused : (n m : ℕ) (v : Point3) → answer Evaluations.At Evaluations.Refused n v ≡ Evaluations.Refused m → Refuses n m
+pub eval-refused : (n m : ℕ) (v : Point3) → answer Ok refused n v ≡ refused m → Refuses n m
 eval-refused = read-refusal evaluated-cases
 
-pub eval-given : (n : ℕ) (v w : Point3) → answer Evaluations.At Evaluations.Refused n v ≡ Evaluations.At w → Gives n v w
+pub eval-given : (n : ℕ) (v w : Point3) → answer Ok refused n v ≡ Ok w → Gives n v w
 eval-given = read-value evaluated-cases
 
 -- ---- what a refusal and a value lead to
@@ -73,11 +73,11 @@ error-none a n l e = ap (λ k. geometry_error a k l) e
 -- ---- the two arms of each test: "7 is a check not made", "2 is reason 25, any other refusal is reason 26", or what the value says
 
 module _ (f : Found) (p : Point3) (tolerance : Float) (n : ℕ) (a : Asked) (r : Measured) (e : r ≡ distance_to_surface f p) where
-  surface-refused : (m : ℕ) → r ≡ Measures.Refused m → (0 < m) × (surface_findings f p tolerance n a ≡ geometry_error a m [])
+  surface-refused : (m : ℕ) (z : Refusal) → r ≡ Err z → m ≡ number_of z → (0 < m) × (surface_findings f p tolerance n a ≡ geometry_error a m [])
   unfolding distance_to_surface surface_findings
-  surface-refused m q = let w = measure-refused _ m (plane_distance (the_plane f) p) (sym e ∙ q) in (refused-some _ m w, error-refused a _ m _ w)
+  surface-refused m z q h = let w = read-number _ m (plane_distance (the_plane f) p) z (sym e ∙ q) h in (refused-some _ m w, error-refused a _ m _ w)
 
-  surface-given : (d : Float) → r ≡ Measures.Is d → surface_findings f p tolerance n a ≡ only_if (lt tolerance d) (fault_on n a)
+  surface-given : (d : Float) → r ≡ Ok d → surface_findings f p tolerance n a ≡ only_if (lt tolerance d) (fault_on n a)
   unfolding distance_to_surface surface_findings
   surface-given d q =
       let w = measure-given (distance_refusal f p) _ d (sym e ∙ q) in
@@ -88,32 +88,32 @@ module _ (f : Found) (p : Point3) (tolerance : Float) (n : ℕ) (a : Asked) (r :
   surface-coded h g = by r refl
     where
       by : (q : Measured) → r ≡ q → surface_findings f p tolerance n a ≡ code_findings (surface_code q tolerance n) a
-      by (Measures.Refused m) q = let w = surface-refused m q in w.1 ∙ error-coded a m w.0
-      by (Measures.Is d) q = surface-given d q ∙ off-coded (lt tolerance d) n a h g
+      by (Err z) q = let w = surface-refused (number_of z) z q refl in w.1 ∙ error-coded a (number_of z) w.0
+      by (Ok d) q = surface-given d q ∙ off-coded (lt tolerance d) n a h g
 
 pub surface-few : (r : Measured) (tolerance : Float) (n : ℕ) → n ≤ 26 → surface_code r tolerance n ≤ 27
-surface-few (Measures.Refused m) tolerance n g = error-few m
-surface-few (Measures.Is d) tolerance n g = off-few (lt tolerance d) n g
+surface-few (Err z) tolerance n g = error-few (number_of z)
+surface-few (Ok d) tolerance n g = off-few (lt tolerance d) n g
 
 module _ (f : Found) (p : Point3) (vertex edge : Float) (e v : ℕ) (r : Projected) (told : r ≡ project_to_curve f p) where
-  pub curve-refused : (m : ℕ) → r ≡ Projections.Refused m → (0 < m) × (curve_findings f p vertex edge e v ≡ geometry_error (about of_edge e) m [])
+  pub curve-refused : (m : ℕ) (z : Refusal) → r ≡ Err z → m ≡ number_of z → (0 < m) × (curve_findings f p vertex edge e v ≡ geometry_error (about of_edge e) m [])
   unfolding project_to_curve curve_findings
-  curve-refused m q =
-      let w = project-refused _ m (projection (the_line f) p) (sym told ∙ q) in (refused-some _ m w, error-refused (about of_edge e) _ m _ w)
+  curve-refused m z q h =
+      let w = read-number _ m (projection (the_line f) p) z (sym told ∙ q) h in (refused-some _ m w, error-refused (about of_edge e) _ m _ w)
 
-  pub curve-given : (near : CurveProjection) → r ≡ Projections.At near → curve_findings f p vertex edge e v ≡ off_curve (off_curve_s p near.point vertex edge) v
+  pub curve-given : (near : CurveProjection) → r ≡ Ok near → curve_findings f p vertex edge e v ≡ off_curve (off_curve_s p near.point vertex edge) v
   unfolding project_to_curve curve_findings
   curve-given near q =
       let w = project-given (project_refusal f p) _ near (sym told ∙ q) in
       error-none (about of_edge e) _ _ w.number ∙ ap (λ x. off_curve (off_curve_s p x.point vertex edge) v) w.value
 
 module _ (f s : Found) (tolerance : Float) (e : ℕ) (t : Float) (r : Evaluated) (told : r ≡ eval_curve f t) where
-  pub sample-refused : (m : ℕ) → r ≡ Evaluations.Refused m → (0 < m) × (sample_findings f s tolerance e t ≡ geometry_error (about of_edge e) m [])
+  pub sample-refused : (m : ℕ) (z : Refusal) → r ≡ Err z → m ≡ number_of z → (0 < m) × (sample_findings f s tolerance e t ≡ geometry_error (about of_edge e) m [])
   unfolding eval_curve sample_findings
-  sample-refused m q =
-      let w = eval-refused _ m (line_point (the_line f) t) (sym told ∙ q) in (refused-some _ m w, error-refused (about of_edge e) _ m _ w)
+  sample-refused m z q h =
+      let w = read-number _ m (line_point (the_line f) t) z (sym told ∙ q) h in (refused-some _ m w, error-refused (about of_edge e) _ m _ w)
 
-  pub sample-given : (p : Point3) → r ≡ Evaluations.At p → sample_findings f s tolerance e t ≡ surface_findings s p tolerance 24 (about of_edge e)
+  pub sample-given : (p : Point3) → r ≡ Ok p → sample_findings f s tolerance e t ≡ surface_findings s p tolerance 24 (about of_edge e)
   unfolding eval_curve sample_findings
   sample-given p q =
       let w = eval-given (eval_refusal f t) _ p (sym told ∙ q) in

@@ -1,14 +1,14 @@
 -- What is found of a point held against a curve or a surface, by what the tables have under their ids (`Laws.antt`: it is what `meaning` says).
 -- No reader of a public promise needs this file. Definitions only.
-use Rattle.std.specs.Prelude.{ℕ, cond, List, [], ◌∷◌, eqb, Float}
+use Rattle.std.specs.Prelude.{ℕ, cond, List, [], ◌∷◌, eqb, Float, Ok, Err}
 use Rattle.std.specs.Float.Ieee.{lt}
 use Rattle.float_vectors.specs.declared.vector.Point3.{Point3}
 use Rattle.geom_lines_planes.specs.Geometry.{line_point, nearest, plane_distance}
-use Rattle.geom_carriers.specs.declared.Found.{Found}
+use Rattle.geom_carriers.specs.Found.{Found}
 use Rattle.geom_carriers.specs.Queries.{the_line, the_plane}
 use Rattle.geom_queries.specs.Queries.{eval_refusal, project_refusal, distance_refusal}
-use Rattle.geom_queries.specs.declared.Measured.{Measured}
-use Rattle.geom_queries.specs.declared.Measured.TheVariants as Measures
+use Rattle.geom_queries.specs.Queries.{Measured}
+use Rattle.geom_lines_planes.specs.Refusals.{number_of}
 use Rattle.geom_signs.specs.Signs.{off_curve_s}
 use Rattle.meaning.specs.Lists.{run, joined}
 use Rattle.meaning.specs.Faults.{of_edge, Asked, about, Finding, skipped, only_if, fault_on, geometry_error, off_curve, sample_at}
@@ -22,8 +22,8 @@ abbrev pub error_code : ℕ → ℕ
 error_code n = cond (eqb n 7) 27 (cond (eqb n 2) 25 26)
 
 abbrev pub surface_code : Measured → Float → ℕ → ℕ
-surface_code (Measures.Refused k) tolerance n = error_code k
-surface_code (Measures.Is d) tolerance n = cond (lt tolerance d) n 0
+surface_code (Err e) tolerance n = error_code (number_of e)
+surface_code (Ok d) tolerance n = cond (lt tolerance d) n 0
 
 -- `curve_test`: the vertex v at p on the curve of the edge e, with the tolerances of both
 unfoldable pub curve_findings : Found → Point3 → Float → Float → ℕ → ℕ → List Finding

@@ -12,15 +12,16 @@ ghost use Rattle.check_points.specs.Points.{curve_findings, surface_findings, sa
 use crate::notes::{geometry_error, log_code, note_off_curve, sample_at, surface_code};
 use check_reasons::{EDGE, Tally};
 use float_vectors::vector::Point3;
-use geom_carriers::Found;
-use geom_queries::{Evaluated, Projected, distance_to_surface, eval_curve, project_to_curve};
+use geom_carriers::Carrier;
+use geom_lines_planes::refusal::Refusal;
+use geom_queries::{distance_to_surface, eval_curve, project_to_curve};
 use geom_signs::offsets::off_curve;
 
 // The vertex v at p against the curve of the edge e, with the tolerances of both.
 pub fn curve_test(
     nums: &mut [u32],
     t: Tally,
-    curve: Found,
+    curve: Option<Carrier>,
     p: Point3,
     vertex: f64,
     edge: f64,
@@ -31,10 +32,8 @@ pub fn curve_test(
     ensures { Noted (curve_findings curve p vertex edge e v) nums.old t nums.new result }
 {
     match project_to_curve(curve, p) {
-        Projected::Refused(n) => geometry_error(nums, t, n, EDGE, e),
-        Projected::At(near) => {
-            note_off_curve(nums, t, off_curve(p, near.point, vertex, edge), v)
-        }
+        Err(refusal) => geometry_error(nums, t, refusal.number(), EDGE, e),
+        Ok(near) => { note_off_curve(nums, t, off_curve(p, near.point, vertex, edge), v) }
     }
 }
 
@@ -42,7 +41,7 @@ pub fn curve_test(
 pub fn point_on_surface(
     nums: &mut [u32],
     t: Tally,
-    surface: Found,
+    surface: Option<Carrier>,
     p: Point3,
     tolerance: f64,
     n: u32,
@@ -61,8 +60,8 @@ pub fn point_on_surface(
 fn sample_test(
     nums: &mut [u32],
     t: Tally,
-    curve: Found,
-    surface: Found,
+    curve: Option<Carrier>,
+    surface: Option<Carrier>,
     tolerance: f64,
     at: f64,
     e: u32,
@@ -71,8 +70,8 @@ fn sample_test(
     ensures { Noted (sample_findings curve surface tolerance e at) nums.old t nums.new result }
 {
     match eval_curve(curve, at) {
-        Evaluated::Refused(n) => geometry_error(nums, t, n, EDGE, e),
-        Evaluated::At(p) => point_on_surface(nums, t, surface, p, tolerance, 24, EDGE, e),
+        Err(refusal) => geometry_error(nums, t, refusal.number(), EDGE, e),
+        Ok(p) => point_on_surface(nums, t, surface, p, tolerance, 24, EDGE, e),
     }
 }
 
@@ -80,8 +79,8 @@ fn sample_test(
 pub fn sample_tests(
     nums: &mut [u32],
     t: Tally,
-    curve: Found,
-    surface: Found,
+    curve: Option<Carrier>,
+    surface: Option<Carrier>,
     tolerance: f64,
     t0: f64,
     t1: f64,
@@ -93,11 +92,9 @@ pub fn sample_tests(
     ensures { Noted (samples_findings curve surface tolerance e t0 t1 n) nums.old t nums.new result }
 {
     let mut tally = t;
-    let mut k = 0;
-    while k < n {
+    for k in 0..n {
         let at = sample_at(t0, t1, n, k + 1);
         tally = sample_test(nums, tally, curve, surface, tolerance, at, e);
-        k += 1;
     }
     tally
 }

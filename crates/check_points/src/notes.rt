@@ -6,7 +6,7 @@ ghost use Rattle.check_reasons.specs.Log.{class_at, Noted, Enough};
 ghost use Rattle.check_points.specs.Points.{code_findings, error_code, surface_code};
 
 use check_reasons::{Tally, VERTEX, note, skip};
-use geom_queries::Measured;
+use geom_lines_planes::refusal::Refusal;
 use interval_arithmetic::Sign;
 
 // What is found, by a code: 0 is nothing, a reason is its fault, and this a check that was not made. So a query and a measurement come to one call of `note`: with more of them `point_on_surface` is
@@ -59,12 +59,12 @@ fn off_code(off: bool, n: u32) -> u32
 }
 
 // A distance from a surface: reason n where it is above the tolerance.
-pub fn surface_code(m: Measured, tolerance: f64, n: u32) -> u32
+pub fn surface_code(m: Result<f64, Refusal>, tolerance: f64, n: u32) -> u32
     ensures { result ≡ surface_code m tolerance n }
 {
     match m {
-        Measured::Refused(k) => error_code(k),
-        Measured::Is(distance) => off_code(tolerance < distance, n),
+        Err(refusal) => error_code(refusal.number()),
+        Ok(distance) => off_code(tolerance < distance, n),
     }
 }
 

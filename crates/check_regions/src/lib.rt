@@ -34,10 +34,8 @@ fn all_faces(
     ensures { Noted (joined (face_findings (decode room.now words.now reals.now) (options geometry n) s) faces.now) nums.old t nums.new result }
 {
     let mut tally = t;
-    let mut k = 0;
-    while k < faces.len() {
-        tally = face(room, words, reals, nums, tally, geometry, n, s, faces[k]);
-        k += 1;
+    for f in faces {
+        tally = face(room, words, reals, nums, tally, geometry, n, s, *f);
     }
     tally
 }
@@ -89,10 +87,8 @@ fn all_shells(
     ensures { Noted (joined (shell_findings (decode room.now words.now reals.now) (options geometry n) r) shells.now) nums.old t nums.new result }
 {
     let mut tally = t;
-    let mut k = 0;
-    while k < shells.len() {
-        tally = shell(room, words, reals, nums, tally, geometry, n, r, shells[k]);
-        k += 1;
+    for s in shells {
+        tally = shell(room, words, reals, nums, tally, geometry, n, r, *s);
     }
     tally
 }
@@ -144,10 +140,8 @@ pub fn all_regions(
     ensures { Noted (joined (region_findings (decode room.now words.now reals.now) (options geometry n) b) regions.now) nums.old t nums.new result }
 {
     let mut tally = t;
-    let mut k = 0;
-    while k < regions.len() {
-        tally = region(room, words, reals, nums, tally, geometry, n, b, regions[k]);
-        k += 1;
+    for r in regions {
+        tally = region(room, words, reals, nums, tally, geometry, n, b, *r);
     }
     tally
 }

@@ -109,10 +109,8 @@ fn entries_sum(
     ensures { result ≡ with_bodies refused.now plus.now minus.now before (bodies_in (within (courses_in courses.now) left) (map entry_of l.now)) }
 {
     let mut s = before;
-    let mut k = 0;
-    while k < l.len() {
-        s = entry_sum(courses, refused, plus, minus, s, left, l[k]);
-        k += 1;
+    for e in l {
+        s = entry_sum(courses, refused, plus, minus, s, left, *e);
     }
     s
 }
@@ -150,10 +148,8 @@ fn lists_body(l: &[u32], body: usize) -> bool
     ensures { result ≡ member body l.now }
 {
     let mut found = false;
-    let mut k = 0;
-    while k < l.len() {
-        found = found | (body == l[k] as usize);
-        k += 1;
+    for e in l {
+        found = found | (body == *e as usize);
     }
     found
 }
@@ -165,10 +161,8 @@ fn listed(courses: &[u32], body: usize) -> bool
 {
     let n = courses[0] as usize;
     let mut found = false;
-    let mut c = 0;
-    while c < n {
+    for c in 0..n {
         found = found | lists_body(entries(courses, c), body);
-        c += 1;
     }
     found
 }
@@ -224,8 +218,7 @@ fn weigh(
     ensures below { minus.new ≡ weighed_minus room.now words.now reals.now office faces.old courses.now n minus.old }
     ensures faces { faces.new ≡ faces.old }
 {
-    let mut b = 0;
-    while b < n {
+    for b in 0..n {
         weigh_one(
             room,
             words,
@@ -238,7 +231,6 @@ fn weigh(
             plus,
             minus,
         );
-        b += 1;
     }
 }
 

@@ -47,10 +47,8 @@ fn known(l: &[u32]) -> bool
     ensures { result ≡ all (λ e. ltb e 131072) l.now }
 {
     let mut ok = true;
-    let mut k = 0;
-    while k < l.len() {
-        ok = ok & (l[k] < 131072);
-        k += 1;
+    for e in l {
+        ok = ok & (*e < 131072);
     }
     ok
 }
@@ -72,10 +70,8 @@ fn rows_ok(courses: &[u32], n: usize) -> bool
     ensures { result ≡ all_below (course_ok courses.now) n }
 {
     let mut ok = true;
-    let mut c = 0;
-    while c < n {
+    for c in 0..n {
         ok = ok & course_ok(courses, c);
-        c += 1;
     }
     ok
 }

@@ -55,10 +55,8 @@ fn entries_found(words: &[u32], office: u32, courses: &[u32], left: u32, l: &[u3
     ensures { (room : List ℕ) (x : List Float) → result ≡ entries_found (decode room words.now x) office (courses_in courses.now) left (map entry_of l.now) }
 {
     let mut worst = 0;
-    let mut k = 0;
-    while k < l.len() {
-        worst = worse_of(worst, entry_found(words, office, courses, left, l[k]));
-        k += 1;
+    for e in l {
+        worst = worse_of(worst, entry_found(words, office, courses, left, *e));
     }
     worst
 }

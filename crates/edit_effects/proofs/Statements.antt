@@ -18,7 +18,7 @@ use Rattle.memory_layout.specs.Readable.{record_ok}
 use Rattle.memory_writes.specs.Put.{new_words}
 use Rattle.memory_records.specs.declared.records.BodyKind.{BodyKind}
 use Rattle.memory_records.specs.declared.records.Sense.{Sense}
-use Rattle.memory_records.specs.declared.records.Ref.{Ref}
+use Rattle.memory_records.specs.Seen.{Ref}
 use Rattle.edit_tags.specs.Tags.{mark}
 use Rattle.edit_fields.specs.Fields.{body_fields, kind_fields, region_fields, shell_fields, face_fields, loop_fields, fin_fields, edge_fields, vertex_fields, carrier_fields, edge_floats, vertex_floats, carrier_floats}
 use Rattle.edit_effects.specs.Meant.{meant_kind, meant_sense, meant_ref, with_bodies, with_regions, with_shells, with_faces, with_loops, with_fins, with_edges, with_vertices, with_curves, with_surfaces}

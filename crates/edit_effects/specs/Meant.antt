@@ -7,8 +7,8 @@ use Rattle.memory_records.specs.declared.records.BodyKind.{BodyKind}
 use Rattle.memory_records.specs.declared.records.BodyKind.TheVariants as Kinds
 use Rattle.memory_records.specs.declared.records.Sense.{Sense}
 use Rattle.memory_records.specs.declared.records.Sense.TheVariants as Senses
-use Rattle.memory_records.specs.declared.records.Ref.{Ref}
-use Rattle.memory_records.specs.declared.records.Ref.TheVariants as Refs
+use Rattle.memory_records.specs.Seen.{Ref}
+use Rattle.std.specs.Prelude.{Some, None}
 
 -- ---- the values, as the model has them
 
@@ -24,8 +24,8 @@ meant_sense Senses.Positive = Model.positive
 meant_sense Senses.Negative = Model.negative
 
 unfoldable pub meant_ref : Ref → Option ℕ
-meant_ref Refs.None = none
-meant_ref (Refs.Is i) = some i
+meant_ref None = none
+meant_ref (Some i) = some i
 
 -- ---- the model m with another table
 

@@ -19,8 +19,8 @@ use Rattle.memory_records.specs.declared.records.BodyKind.{BodyKind}
 use Rattle.memory_records.specs.declared.records.BodyKind.TheVariants as Kinds
 use Rattle.memory_records.specs.declared.records.Sense.{Sense}
 use Rattle.memory_records.specs.declared.records.Sense.TheVariants as Senses
-use Rattle.memory_records.specs.declared.records.Ref.{Ref}
-use Rattle.memory_records.specs.declared.records.Ref.TheVariants as Refs
+use Rattle.memory_records.specs.Seen.{Ref}
+use Rattle.std.specs.Prelude.{Some, None}
 use Rattle.memory_writes.specs.Put.{over}
 use Rattle.edit_tags.specs.Tags.{kind_tag, sense_tag, mark, ref_tag, ref_id, tolerance_tag, tolerance_float}
 use Rattle.edit_fields.specs.Fields.{body_fields, kind_fields, region_fields, shell_fields, face_fields, loop_fields, fin_fields, edge_fields, vertex_fields, carrier_fields, edge_floats, vertex_floats, carrier_floats}
@@ -87,12 +87,12 @@ mark-known false = refl
 
 ref-read : (id : Ref) → cond (eqb (ref_tag id) 0) none (some (ref_id id)) ≡ meant_ref id
 unfolding meant_ref
-ref-read Refs.None = refl
-ref-read (Refs.Is i) = refl
+ref-read None = refl
+ref-read (Some i) = refl
 
 ref-known : (id : Ref) → leb (ref_tag id) 1 ≡ true
-ref-known Refs.None = refl
-ref-known (Refs.Is i) = refl
+ref-known None = refl
+ref-known (Some i) = refl
 
 tolerance-read : (t : Tolerance) → tolerance_of (tolerance_tag t) (tolerance_float t) ≡ t
 tolerance-read Session = refl

@@ -10,8 +10,8 @@ use Rattle.memory_records.specs.declared.records.BodyKind.{BodyKind}
 use Rattle.memory_records.specs.declared.records.BodyKind.TheVariants as Kinds
 use Rattle.memory_records.specs.declared.records.Sense.{Sense}
 use Rattle.memory_records.specs.declared.records.Sense.TheVariants as Senses
-use Rattle.memory_records.specs.declared.records.Ref.{Ref}
-use Rattle.memory_records.specs.declared.records.Ref.TheVariants as Refs
+use Rattle.memory_records.specs.Seen.{Ref}
+use Rattle.std.specs.Prelude.{Some, None}
 use Rattle.memory_records.specs.Seen.{seen_kind, seen_sense, seen_ref}
 use Rattle.edit_effects.specs.Meant.{meant_kind, meant_sense, meant_ref}
 
@@ -36,5 +36,5 @@ sense-seen Senses.Negative = refl
 
 pub ref-seen : (id : Ref) → seen_ref (meant_ref id) ≡ id
 unfolding seen_ref meant_ref
-ref-seen Refs.None = refl
-ref-seen (Refs.Is i) = refl
+ref-seen None = refl
+ref-seen (Some i) = refl

@@ -8,7 +8,7 @@ use Rattle.geom_carriers.specs.declared.Carrier.{Carrier}
 use Rattle.geom_carriers.specs.declared.Carrier.TheVariants as Carriers
 use Rattle.memory_records.specs.declared.records.BodyKind.{BodyKind}
 use Rattle.memory_records.specs.declared.records.Sense.{Sense}
-use Rattle.memory_records.specs.declared.records.Ref.{Ref}
+use Rattle.memory_records.specs.Seen.{Ref}
 use Rattle.edit_tags.specs.Tags.{kind_tag, sense_tag, mark, ref_tag, ref_id, tolerance_tag, tolerance_float, carrier_tag}
 
 -- ---- the words of each record's fields

@@ -10,7 +10,7 @@ use edit_tags::{
 use float_vectors::vector::{Point3, Vec3};
 use geom_carriers::Carrier;
 use geom_lines_planes::tolerance::Tolerance;
-use memory_records::records::{BodyKind, Ref, Sense};
+use memory_records::records::{BodyKind, Sense};
 
 pub fn body_fields(kind: BodyKind, office: u32) -> [u32; 2]
     ensures { result ≡ body_fields kind office }
@@ -31,7 +31,12 @@ pub fn region_fields(body: u32, solid: bool) -> [u32; 2]
     [body, mark(solid)]
 }
 
-pub fn face_fields(front: Ref, back: Ref, surface: Ref, sense: Sense) -> [u32; 7]
+pub fn face_fields(
+    front: Option<u32>,
+    back: Option<u32>,
+    surface: Option<u32>,
+    sense: Sense,
+) -> [u32; 7]
     ensures { result ≡ face_fields front back surface sense }
 {
     [
@@ -51,7 +56,12 @@ pub fn fin_fields(owner: u32, edge: u32, sense: Sense, pcurve: bool) -> [u32; 4]
     [owner, edge, sense_tag(sense), mark(pcurve)]
 }
 
-pub fn edge_fields(start: Ref, end: Ref, curve: Ref, tolerance: Tolerance) -> [u32; 7]
+pub fn edge_fields(
+    start: Option<u32>,
+    end: Option<u32>,
+    curve: Option<u32>,
+    tolerance: Tolerance,
+) -> [u32; 7]
     ensures { result ≡ edge_fields start end curve tolerance }
 {
     [

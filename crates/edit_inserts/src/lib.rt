@@ -21,7 +21,7 @@ use geom_lines_planes::tolerance::Tolerance;
 use memory_layout::names::{
     BODIES, CURVES, EDGES, FACES, FINS, LOOPS, REGIONS, SHELLS, SURFACES, VERTICES,
 };
-use memory_records::records::{BodyKind, Ref, Sense};
+use memory_records::records::{BodyKind, Sense};
 
 // Into a table without floats.
 pub fn insert_fields(
@@ -99,9 +99,9 @@ pub fn insert_face(
     room: &[usize; 10],
     words: &mut [u32],
     reals: &mut [f64],
-    front: Ref,
-    back: Ref,
-    surface: Ref,
+    front: Option<u32>,
+    back: Option<u32>,
+    surface: Option<u32>,
     sense: Sense,
 ) -> Inserted
     ensures answer { result ≡ insert_answer room.now words.old reals.old true FACES }
@@ -133,9 +133,9 @@ pub fn insert_edge(
     room: &[usize; 10],
     words: &mut [u32],
     reals: &mut [f64],
-    start: Ref,
-    end: Ref,
-    curve: Ref,
+    start: Option<u32>,
+    end: Option<u32>,
+    curve: Option<u32>,
     tolerance: Tolerance,
 ) -> Inserted
     ensures answer { result ≡ insert_answer room.now words.old reals.old (tolerance_ok tolerance) EDGES }

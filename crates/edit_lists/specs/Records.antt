@@ -1,12 +1,11 @@
 -- A record with another list: that list is the one, and every other field and list of the record is as it was. Assumes nothing.
 use Prim.Native.Nat.{ℕ, zero, suc, ◌+◌, ◌≤◌, ◌<◌}
 use Rattle.std.proofs.Common.{add-zero, add-one, arith, sym, ◌∙◌, drop-drop, le-leb}
-use Rattle.std.specs.Prelude.{◌≡◌, refl, true, ◌&&◌, leb, length, drop, Float}
+use Rattle.std.specs.Prelude.{◌≡◌, true, ◌&&◌, leb, length, drop, Float}
 use Rattle.std.proofs.Math.Path.{ap}
 use mathlib.Core.List.{List, ◌∷◌}
 use Rattle.std.proofs.Math.ListN.{take}
 use Rattle.std.proofs.Math.Seq.{take-append_seam}
-use Rattle.meaning.specs.Model.{Body, Region, Shell, Face, Loop, Edge}
 use Rattle.meaning_list_laws.specs.Tests.{and_both}
 use Rattle.memory_layout.specs.Layout.{word_strides, word, real}
 use Rattle.memory_layout.specs.Decode.{list_at, body_of, region_of, shell_of, face_of, loop_of, edge_of}

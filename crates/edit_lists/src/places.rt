@@ -30,11 +30,9 @@ pub fn strike_at(w: &mut [u32], at: usize, place: usize)
     let n = w[at];
     let from = at + 1 + place;
     let behind = n as usize - 1 - place;
-    let mut m = 0;
-    while m < behind {
+    for m in 0..behind {
         let v = w[from + 1 + m];
         w[from + m] = v;
-        m += 1;
     }
     w[at] = n - 1;
 }

@@ -23,7 +23,7 @@ use memory_layout::names::{
     AT_FIN_PCURVE, BODIES, CURVES, EDGES, FACES, FINS, LOOPS, REGIONS, SHELLS, SURFACES, VERTICES,
 };
 use memory_offices::body_for;
-use memory_records::records::{BodyKind, Ref, Sense};
+use memory_records::records::{BodyKind, Sense};
 
 // In a table without floats, from place p of the record on.
 pub fn set_fields(
@@ -134,9 +134,9 @@ pub fn set_face(
     words: &mut [u32],
     reals: &mut [f64],
     id: usize,
-    front: Ref,
-    back: Ref,
-    surface: Ref,
+    front: Option<u32>,
+    back: Option<u32>,
+    surface: Option<u32>,
     sense: Sense,
 ) -> u32
     ensures answer { result ≡ edit_number room.now words.old reals.old true FACES id }
@@ -170,9 +170,9 @@ pub fn set_edge(
     words: &mut [u32],
     reals: &mut [f64],
     id: usize,
-    start: Ref,
-    end: Ref,
-    curve: Ref,
+    start: Option<u32>,
+    end: Option<u32>,
+    curve: Option<u32>,
     tolerance: Tolerance,
 ) -> u32
     ensures answer { result ≡ edit_number room.now words.old reals.old (tolerance_ok tolerance) EDGES id }

@@ -9,8 +9,8 @@ use Rattle.memory_records.specs.declared.records.BodyKind.{BodyKind}
 use Rattle.memory_records.specs.declared.records.BodyKind.TheVariants as Kinds
 use Rattle.memory_records.specs.declared.records.Sense.{Sense}
 use Rattle.memory_records.specs.declared.records.Sense.TheVariants as Senses
-use Rattle.memory_records.specs.declared.records.Ref.{Ref}
-use Rattle.memory_records.specs.declared.records.Ref.TheVariants as Refs
+use Rattle.memory_records.specs.Seen.{Ref}
+use Rattle.std.specs.Prelude.{Some, None}
 
 abbrev pub kind_tag : BodyKind → ℕ
 kind_tag Kinds.Acorn = 0
@@ -30,12 +30,12 @@ mark false = 0
 
 -- an optional id: its tag and the id, 0 where it is none
 abbrev pub ref_tag : Ref → ℕ
-ref_tag Refs.None = 0
-ref_tag (Refs.Is i) = 1
+ref_tag None = 0
+ref_tag (Some i) = 1
 
 abbrev pub ref_id : Ref → ℕ
-ref_id Refs.None = 0
-ref_id (Refs.Is i) = i
+ref_id None = 0
+ref_id (Some i) = i
 
 -- an optional tolerance: its tag and the float, 0 where it is none
 abbrev pub tolerance_tag : Tolerance → ℕ

@@ -7,7 +7,7 @@ ghost use Rattle.edit_tags.specs.Tags.{kind_tag, sense_tag, mark, ref_tag, ref_i
 
 use geom_carriers::Carrier;
 use geom_lines_planes::tolerance::Tolerance;
-use memory_records::records::{BodyKind, Ref, Sense};
+use memory_records::records::{BodyKind, Sense};
 
 pub fn kind_tag(kind: BodyKind) -> u32
     ensures { result ≡ kind_tag kind }
@@ -40,21 +40,21 @@ pub fn mark(b: bool) -> u32
 }
 
 // An optional id: its tag and the id, 0 where it is none.
-pub fn ref_tag(id: Ref) -> u32
+pub fn ref_tag(id: Option<u32>) -> u32
     ensures { result ≡ ref_tag id }
 {
     match id {
-        Ref::None => 0,
-        Ref::Is(_) => 1,
+        None => 0,
+        Some(_) => 1,
     }
 }
 
-pub fn ref_id(id: Ref) -> u32
+pub fn ref_id(id: Option<u32>) -> u32
     ensures { result ≡ ref_id id }
 {
     match id {
-        Ref::None => 0,
-        Ref::Is(i) => i,
+        None => 0,
+        Some(i) => i,
     }
 }
 

@@ -1,10 +1,11 @@
-// For callers: carriers (store.rs). A table answers Found; what is no line or no plane gives 7.
+// For callers: carriers (store.rs). A table answers one or none; what is no line or no plane gives 7.
 #![tactic(auto)]
 
 ghost use Rattle.std.specs.Prelude.{◌≡◌};
 ghost use Rattle.geom_carriers.specs.Queries.{line_answer, plane_answer};
 
 use geom_lines_planes::curve::Line;
+use geom_lines_planes::refusal::Refusal;
 use geom_lines_planes::surface::Plane;
 
 #[derive(Clone, Copy)]
@@ -14,50 +15,24 @@ pub enum Carrier {
     Other,
 }
 
-// What a table has under an id.
-#[derive(Clone, Copy)]
-pub enum Found {
-    There(Carrier),
-    Missing,
-}
-
-// The line or the plane under an id, or the refusal's number.
-#[derive(Clone, Copy)]
-pub enum LineFound {
-    Is(Line),
-    Refused(u32),
-}
-
-#[derive(Clone, Copy)]
-pub enum PlaneFound {
-    Is(Plane),
-    Refused(u32),
-}
-
 // 2 where there is no curve, 7 where it is no line.
-pub fn line_of(curve: Found) -> LineFound
+#[tactic(auto, unfolding(crate::specs::Queries::line_answer, crate::specs::Queries::line_refusal, crate::specs::Queries::the_line))]
+pub fn line_of(curve: Option<Carrier>) -> Result<Line, Refusal>
     ensures { result ≡ line_answer curve }
 {
-    match curve {
-        Found::Missing => LineFound::Refused(2),
-        Found::There(carrier) => match carrier {
-            Carrier::Line(line) => LineFound::Is(line),
-            Carrier::Plane(_) => LineFound::Refused(7),
-            Carrier::Other => LineFound::Refused(7),
-        },
+    match curve.ok_or(Refusal::NotFound)? {
+        Carrier::Line(line) => Ok(line),
+        Carrier::Plane(_) | Carrier::Other => Err(Refusal::Unresolved),
     }
 }
 
 // 2 where there is no surface, 7 where it is no plane.
-pub fn plane_of(surface: Found) -> PlaneFound
+#[tactic(auto, unfolding(crate::specs::Queries::plane_answer, crate::specs::Queries::plane_refusal, crate::specs::Queries::the_plane))]
+pub fn plane_of(surface: Option<Carrier>) -> Result<Plane, Refusal>
     ensures { result ≡ plane_answer surface }
 {
-    match surface {
-        Found::Missing => PlaneFound::Refused(2),
-        Found::There(carrier) => match carrier {
-            Carrier::Line(_) => PlaneFound::Refused(7),
-            Carrier::Plane(plane) => PlaneFound::Is(plane),
-            Carrier::Other => PlaneFound::Refused(7),
-        },
+    match surface.ok_or(Refusal::NotFound)? {
+        Carrier::Plane(plane) => Ok(plane),
+        Carrier::Line(_) | Carrier::Other => Err(Refusal::Unresolved),
     }
 }

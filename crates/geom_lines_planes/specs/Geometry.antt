@@ -1,9 +1,8 @@
 -- Lines, planes and tolerances (curve.rs, surface.rs, tolerance.rs). Definitions only.
-use Rattle.std.specs.Prelude.{Bool, true, false, cond, Float}
+use Rattle.std.specs.Prelude.{false, cond, Float}
 use Rattle.std.specs.Float.{nan, inf, fin, binary64}
 use Rattle.std.specs.Float.Ieee.{of_bits, lt}
 use Rattle.float_vectors.specs.declared.vector.Point3.{Point3}
-use Rattle.float_vectors.specs.declared.vector.Vec3.{Vec3}
 use Rattle.float_vectors.specs.Space.{◌*ᶠ◌, minus, along, scaled_v, dot_v}
 use Rattle.geom_lines_planes.specs.declared.curve.Line.{Line}
 use Rattle.geom_lines_planes.specs.declared.surface.Plane.{Plane}

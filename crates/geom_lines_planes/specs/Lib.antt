@@ -1,4 +1,5 @@
 pub mod Refuse
+pub mod Refusals
 pub mod Geometry
 pub mod Size
 pub mod Laws

@@ -1,22 +1,18 @@
 -- The queries of store.rs, over what a table has under an id: the refusal's number, the value, and the answer made of both. Definitions only.
 -- 01, "Other geometry answers refusal 7 to every query (added), after the source's tests of number and record".
-use Rattle.std.specs.Prelude.{ℕ, Float}
+use Rattle.std.specs.Prelude.{ℕ, Float, Result}
 use Rattle.std.specs.Float.Ieee.Scale.{finite}
 use Rattle.float_vectors.specs.declared.vector.Point3.{Point3}
 use Rattle.float_vectors.specs.Space.{finite_point}
 use Rattle.geom_lines_planes.specs.declared.curve.Line.{Line}
 use Rattle.geom_lines_planes.specs.declared.surface.Plane.{Plane}
-use Rattle.geom_lines_planes.specs.Refuse.{◌unless◌, ◌then◌, answer}
+use Rattle.geom_lines_planes.specs.Refuse.{◌unless◌, ◌then◌}
 use Rattle.geom_lines_planes.specs.Geometry.{line_point, nearest, plane_distance}
-use Rattle.geom_carriers.specs.declared.Found.{Found}
+use Rattle.geom_carriers.specs.Found.{Found}
 use Rattle.geom_carriers.specs.Queries.{the_line, line_refusal, the_plane, plane_refusal}
-use Rattle.geom_queries.specs.declared.Evaluated.{Evaluated}
-use Rattle.geom_queries.specs.declared.Evaluated.TheVariants as Evaluations
+use Rattle.geom_lines_planes.specs.declared.refusal.Refusal.{Refusal}
+use Rattle.geom_lines_planes.specs.Refusals.{answered}
 use Rattle.geom_queries.specs.declared.CurveProjection.{CurveProjection}
-use Rattle.geom_queries.specs.declared.Projected.{Projected}
-use Rattle.geom_queries.specs.declared.Projected.TheVariants as Projections
-use Rattle.geom_queries.specs.declared.Measured.{Measured}
-use Rattle.geom_queries.specs.declared.Measured.TheVariants as Measures
 
 -- ---- the refusals of the queries, in the source's order
 
@@ -44,14 +40,23 @@ distance_refusal f p = 1 unless finite_point p then plane_refusal f then off_pla
 
 -- ---- the answers, made of the number and the value
 
+abbrev pub Evaluated : Type 0
+Evaluated = Result Point3 Refusal
+
+abbrev pub Projected : Type 0
+Projected = Result CurveProjection Refusal
+
+abbrev pub Measured : Type 0
+Measured = Result Float Refusal
+
 abbrev pub evaluated_answer : ℕ → Point3 → Evaluated
-evaluated_answer = answer Evaluations.At Evaluations.Refused
+evaluated_answer = answered
 
 abbrev pub projected_answer : ℕ → CurveProjection → Projected
-projected_answer = answer Projections.At Projections.Refused
+projected_answer = answered
 
 abbrev pub measured_answer : ℕ → Float → Measured
-measured_answer = answer Measures.Is Measures.Refused
+measured_answer = answered
 
 unfoldable pub eval_curve : Found → Float → Evaluated
 eval_curve f t = evaluated_answer (eval_refusal f t) (line_point (the_line f) t)

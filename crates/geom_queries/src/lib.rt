@@ -7,16 +7,10 @@ ghost use Rattle.geom_lines_planes.specs.Geometry.{line_point, plane_distance};
 ghost use Rattle.geom_queries.specs.Queries.{on_line, near_line, off_plane, projection, evaluated_answer, projected_answer, measured_answer, eval_curve, project_to_curve, distance_to_surface};
 
 use float_vectors::vector::Point3;
-use geom_carriers::{Found, LineFound, PlaneFound, line_of, plane_of};
+use geom_carriers::{Carrier, line_of, plane_of};
 use geom_lines_planes::curve::Line;
+use geom_lines_planes::refusal::Refusal;
 use geom_lines_planes::surface::Plane;
-
-// A point of a curve, or the refusal's number.
-#[derive(Clone, Copy)]
-pub enum Evaluated {
-    At(Point3),
-    Refused(u32),
-}
 
 // The closest point of a curve, and its parameter.
 #[derive(Clone, Copy)]
@@ -25,89 +19,69 @@ pub struct CurveProjection {
     pub point: Point3,
 }
 
-// A projection, or the refusal's number.
-#[derive(Clone, Copy)]
-pub enum Projected {
-    At(CurveProjection),
-    Refused(u32),
-}
-
-// A distance, or the refusal's number.
-#[derive(Clone, Copy)]
-pub enum Measured {
-    Is(f64),
-    Refused(u32),
-}
-
-fn eval_line(line: Line, t: f64) -> Evaluated
+fn eval_line(line: Line, t: f64) -> Result<Point3, Refusal>
     ensures { result ≡ evaluated_answer (on_line line t) (line_point line t) }
 {
     let point = line.eval(t);
     if point.is_finite() {
-        return Evaluated::At(point);
+        return Ok(point);
     }
-    Evaluated::Refused(4)
+    Err(Refusal::Degenerate)
 }
 
 // The point of a curve at t: 1 where t is not finite, then 2 or 7, then 4 where the point is not finite.
-pub fn eval_curve(curve: Found, t: f64) -> Evaluated
+#[tactic(auto, unfolding(crate::specs::Queries::eval_curve, geom_carriers::specs::Queries::line_answer))]
+pub fn eval_curve(curve: Option<Carrier>, t: f64) -> Result<Point3, Refusal>
     ensures { result ≡ eval_curve curve t }
 {
     if !float_vectors::vector::is_finite(t) {
-        return Evaluated::Refused(1);
+        return Err(Refusal::BadArgument);
     }
-    match line_of(curve) {
-        LineFound::Refused(n) => Evaluated::Refused(n),
-        LineFound::Is(line) => eval_line(line, t),
-    }
+    eval_line(line_of(curve)?, t)
 }
 
-fn project_to_line(line: Line, p: Point3) -> Projected
+fn project_to_line(line: Line, p: Point3) -> Result<CurveProjection, Refusal>
     ensures { result ≡ projected_answer (near_line line p) (projection line p) }
 {
     let param = line.closest_param(p);
     if !float_vectors::vector::is_finite(param) {
-        return Projected::Refused(1);
+        return Err(Refusal::BadArgument);
     }
     let point = line.eval(param);
     if point.is_finite() {
-        return Projected::At(CurveProjection { param, point });
+        return Ok(CurveProjection { param, point });
     }
-    Projected::Refused(4)
+    Err(Refusal::Degenerate)
 }
 
 // The closest point on a curve: 1 where p is not finite, then 2 or 7, then as eval_curve at the nearest parameter.
-pub fn project_to_curve(curve: Found, p: Point3) -> Projected
+#[tactic(auto, unfolding(crate::specs::Queries::project_to_curve, geom_carriers::specs::Queries::line_answer))]
+pub fn project_to_curve(curve: Option<Carrier>, p: Point3) -> Result<CurveProjection, Refusal>
     ensures { result ≡ project_to_curve curve p }
 {
     if !p.is_finite() {
-        return Projected::Refused(1);
+        return Err(Refusal::BadArgument);
     }
-    match line_of(curve) {
-        LineFound::Refused(n) => Projected::Refused(n),
-        LineFound::Is(line) => project_to_line(line, p),
-    }
+    project_to_line(line_of(curve)?, p)
 }
 
-fn distance_to_plane(plane: Plane, p: Point3) -> Measured
+fn distance_to_plane(plane: Plane, p: Point3) -> Result<f64, Refusal>
     ensures { result ≡ measured_answer (off_plane plane p) (plane_distance plane p) }
 {
     let distance = plane.distance(p);
     if float_vectors::vector::is_finite(distance) {
-        return Measured::Is(distance);
+        return Ok(distance);
     }
-    Measured::Refused(4)
+    Err(Refusal::Degenerate)
 }
 
 // How far p lies from a surface: 1 where p is not finite, then 2 or 7, then 4 where the distance is not finite.
-pub fn distance_to_surface(surface: Found, p: Point3) -> Measured
+#[tactic(auto, unfolding(crate::specs::Queries::distance_to_surface, geom_carriers::specs::Queries::plane_answer))]
+pub fn distance_to_surface(surface: Option<Carrier>, p: Point3) -> Result<f64, Refusal>
     ensures { result ≡ distance_to_surface surface p }
 {
     if !p.is_finite() {
-        return Measured::Refused(1);
+        return Err(Refusal::BadArgument);
     }
-    match plane_of(surface) {
-        PlaneFound::Refused(n) => Measured::Refused(n),
-        PlaneFound::Is(plane) => distance_to_plane(plane, p),
-    }
+    distance_to_plane(plane_of(surface)?, p)
 }

@@ -13,7 +13,7 @@ use Rattle.geom_signs.specs.Signs.{increasing_s, span_s, apart_s, off_plane_s, o
 use Rattle.interval_narrowing.specs.Narrow.{never}
 use Rattle.interval_narrowing.proofs.Narrowing.{add-exact, sub-exact, difference-exact, vector-exact, dot-exact}
 use Rattle.geom_signs_kept.specs.SignsBy.{increasing_by, span_by, apart_by, off_plane_by, off_curve_by}
-use Rattle.geom_signs_kept.specs.Decided.{increasing-decided, span-decided, apart-decided, off-plane-decided, off-curve-decided}
+use Rattle.geom_signs_kept.specs.Decided.{increasing-decided, span-decided, apart-decided, off-plane-decided}
 
 -- ---- the tests of `geom_signs` are those by which a sum that is exact stays
 pub increasing-exact : (d : Vec3) (start end : Point3) → increasing_by exact_sum d start end ≡ increasing_s d start end

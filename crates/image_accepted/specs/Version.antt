@@ -9,7 +9,7 @@ use Rattle.meaning.specs.Model.{office-0}
 use Rattle.meaning_list_laws.specs.Tests.{and_both, and-true, and-false, both_ways}
 use Rattle.memory_layout.specs.Layout.{word}
 use Rattle.memory_layout.specs.Laid.{version_tag}
-use Rattle.image_format.specs.Bytes.{little, words, floats, lists, number, words_in, same_bytes}
+use Rattle.image_format.specs.Bytes.{little, floats, lists, number, words_in, same_bytes}
 use Rattle.image_format.specs.Fields.{VERSION_RECORD, marks, record_image}
 use Rattle.image_format.specs.Image.{records_image, version_image, image_of, model_of, version_in, records_in, model_in, held, accepted}
 use Rattle.image_laws.specs.Numbers.{Bytes, below-first, below-drop}

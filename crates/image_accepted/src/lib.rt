@@ -40,12 +40,9 @@ fn counts_good(bytes: &[u8]) -> bool
     requires { 50 ≤ length bytes.now }
     ensures { result ≡ counts_good bytes.now }
 {
-    let largest = LARGEST;
     let mut ok = true;
-    let mut k = 0;
-    while k < 10 {
-        ok = ok & (count_in(bytes, k) <= largest[k]);
-        k += 1;
+    for (k, most) in LARGEST.iter().enumerate() {
+        ok = ok & (count_in(bytes, k) <= *most);
     }
     ok
 }
@@ -58,10 +55,8 @@ fn records_end(k: usize, n: u32, bytes: &[u8], at: usize) -> usize
     ensures upper_bound { result ≤ length bytes.now }
 {
     let mut end = at;
-    let mut i = 0;
-    while i < n {
+    for _ in 0..n {
         end = record_end(k, bytes, end);
-        i += 1;
     }
     end
 }
@@ -72,10 +67,8 @@ fn tables_end(bytes: &[u8]) -> usize
     ensures { result ≡ tables_end bytes.now 10 }
 {
     let mut end = 50;
-    let mut k = 0;
-    while k < 10 {
+    for k in 0..10 {
         end = records_end(k, count_in(bytes, k), bytes, end);
-        k += 1;
     }
     end
 }

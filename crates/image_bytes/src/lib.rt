@@ -94,10 +94,8 @@ pub fn put_words(bytes: &mut [u8], at: usize, a: &[u32])
     requires { at + 4 * length a.now ≤ length bytes.old }
     ensures { bytes.new ≡ over at (words a.now) bytes.old }
 {
-    let mut j = 0;
-    while j < a.len() {
-        put_word(bytes, at + 4 * j, a[j]);
-        j += 1;
+    for (j, word) in a.iter().enumerate() {
+        put_word(bytes, at + 4 * j, *word);
     }
 }
 
@@ -105,10 +103,8 @@ pub fn put_floats(bytes: &mut [u8], at: usize, a: &[f64])
     requires { at + 8 * length a.now ≤ length bytes.old }
     ensures { bytes.new ≡ over at (floats a.now) bytes.old }
 {
-    let mut j = 0;
-    while j < a.len() {
-        put_bits(bytes, at + 8 * j, bits_of(a[j]));
-        j += 1;
+    for (j, float) in a.iter().enumerate() {
+        put_bits(bytes, at + 8 * j, bits_of(*float));
     }
 }
 
@@ -117,10 +113,8 @@ pub fn get_words(bytes: &[u8], at: usize, w: &mut [u32])
     requires { at + 4 * length w.old ≤ length bytes.now }
     ensures { w.new ≡ words_in (length w.old) (drop at bytes.now) }
 {
-    let mut j = 0;
-    while j < w.len() {
-        w[j] = word_in(bytes, at + 4 * j);
-        j += 1;
+    for (j, word) in w.iter_mut().enumerate() {
+        *word = word_in(bytes, at + 4 * j);
     }
 }
 
@@ -128,9 +122,7 @@ pub fn get_floats(bytes: &[u8], at: usize, x: &mut [f64])
     requires { at + 8 * length x.old ≤ length bytes.now }
     ensures { x.new ≡ floats_in (length x.old) (drop at bytes.now) }
 {
-    let mut j = 0;
-    while j < x.len() {
-        x[j] = float_of(bits_in(bytes, at + 8 * j));
-        j += 1;
+    for (j, float) in x.iter_mut().enumerate() {
+        *float = float_of(bits_in(bytes, at + 8 * j));
     }
 }

@@ -69,11 +69,9 @@ fn load_table(
 {
     let n = word_in(bytes, 2 + 4 * k) as usize;
     let mut here = at;
-    let mut i = 0;
-    while i < n {
+    for i in 0..n {
         lay_floats(room, reals, k, i, bytes, here);
         here = lay_words(room, words, k, i, bytes, here);
-        i += 1;
     }
     here
 }
@@ -85,10 +83,8 @@ fn load_tables(room: &[usize; 10], words: &mut [u32], reals: &mut [f64], bytes: 
     ensures reals_after { reals.new ≡ table_floats_laid room.now bytes.now 10 reals.old }
 {
     let mut at = 50;
-    let mut k = 0;
-    while k < 10 {
+    for k in 0..10 {
         at = load_table(room, words, reals, k, bytes, at);
-        k += 1;
     }
 }
 

@@ -16,10 +16,8 @@ fn room_for(room: &[usize; 10], bytes: &[u8]) -> bool
     ensures { result ≡ room_for room.now bytes.now }
 {
     let mut ok = true;
-    let mut k = 0;
-    while k < 10 {
-        ok = ok & (count_in(bytes, k) as usize <= room[k]);
-        k += 1;
+    for (k, slots) in room.iter().enumerate() {
+        ok = ok & (count_in(bytes, k) as usize <= *slots);
     }
     ok
 }

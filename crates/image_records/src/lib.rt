@@ -133,11 +133,9 @@ fn lists_length(k: usize, w: &[u32]) -> usize
 {
     let n = list_count(k);
     let mut long = 0;
-    let mut j = 0;
-    while j < n {
+    for j in 0..n {
         let at = place_of(k, j);
         long += 4 * (w[at] as usize + 1);
-        j += 1;
     }
     long
 }
@@ -234,12 +232,10 @@ fn put_lists(k: usize, w: &[u32], bytes: &mut [u8], at: usize) -> usize
 {
     let n = list_count(k);
     let mut to = at;
-    let mut j = 0;
-    while j < n {
+    for j in 0..n {
         let l = counted(w, place_of(k, j));
         put_words(bytes, to, l);
         to += 4 * l.len();
-        j += 1;
     }
     to
 }

@@ -43,10 +43,8 @@ fn rows_length(k: usize, n: usize, w: &[u32]) -> usize
 {
     let words = word_stride(k);
     let mut long = 0;
-    let mut i = 0;
-    while i < n {
+    for i in 0..n {
         long = long + record_length(k, words_row(w, words, i));
-        i += 1;
     }
     long
 }
@@ -68,10 +66,8 @@ fn tables_length(room: &[usize; 10], words: &[u32]) -> usize
     ensures { result ≡ tables_length room.now words.now 10 }
 {
     let mut long = PRECISION_LENGTH;
-    let mut k = 0;
-    while k < TABLES {
+    for k in 0..TABLES {
         long = long + table_length(room, words, k);
-        k += 1;
     }
     long
 }
@@ -107,10 +103,8 @@ fn write_rows(k: usize, n: usize, w: &[u32], x: &[f64], bytes: &mut [u8], at: us
     let words = word_stride(k);
     let reals = real_stride(k);
     let mut to = at;
-    let mut i = 0;
-    while i < n {
+    for i in 0..n {
         to = write_record(k, words_row(w, words, i), reals_row(x, reals, i), bytes, to);
-        i += 1;
     }
     to
 }
@@ -175,10 +169,8 @@ fn write_tables(
     ensures written { bytes.new ≡ over at (tables_of room.now words.now reals.now 10) bytes.old }
 {
     let mut to = at;
-    let mut k = 0;
-    while k < TABLES {
+    for k in 0..TABLES {
         to = write_table(room, words, reals, k, bytes, to);
-        k += 1;
     }
     to
 }

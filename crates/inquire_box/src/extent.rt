@@ -35,11 +35,9 @@ fn extent(room: &[usize; 10], words: &[u32], reals: &[f64], ids: &[u32]) -> Exte
     ensures { result ≡ extent_of (map (point_of (decode room.now words.now reals.now)) ids.now) }
 {
     let mut e = Extent::none();
-    let mut k = 0;
-    while k < ids.len() {
-        let point = point_at(room, words, reals, ids[k] as usize);
+    for id in ids {
+        let point = point_at(room, words, reals, *id as usize);
         e = e.with(point);
-        k += 1;
     }
     e
 }

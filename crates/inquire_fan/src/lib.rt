@@ -71,12 +71,10 @@ pub fn polygon_volume(
     let o = corner(room, words, reals, fins, back, 0);
     let mut p = corner(room, words, reals, fins, back, 1);
     let mut acc = 0.0;
-    let mut k = 1;
-    while k + 1 < fins.len() {
+    for k in 1..fins.len() - 1 {
         let q = corner(room, words, reals, fins, back, k + 1);
         acc = acc + wedge(o, p, q);
         p = q;
-        k += 1;
     }
     acc / 6.0
 }

@@ -74,10 +74,8 @@ pub fn starts_refusal(room: &[usize; 10], words: &[u32], fins: &[u32]) -> u32
     ensures { result ≡ first_of (start_number room.now words.now) fins.now }
 {
     let mut n = 0;
-    let mut k = 0;
-    while k < fins.len() {
-        n = then(n, start_refusal(room, words, fins[k] as usize));
-        k += 1;
+    for fin in fins {
+        n = then(n, start_refusal(room, words, *fin as usize));
     }
     n
 }

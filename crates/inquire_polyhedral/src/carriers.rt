@@ -5,7 +5,7 @@ ghost use Rattle.meaning.specs.Inquire.{flat_face, straight_edge};
 ghost use Rattle.memory_layout.specs.Decode.{decode};
 ghost use Rattle.memory_layout.specs.Fit.{Fit};
 
-use geom_carriers::{Found, PlaneFound, plane_of};
+use geom_carriers::{Carrier, plane_of};
 use memory_layout::layout::words_of;
 use memory_layout::names::{
     AT_EDGE_CURVE, AT_EDGE_CURVE_ID, AT_FACE_SURFACE, AT_FACE_SURFACE_ID, EDGES, FACES,
@@ -14,12 +14,13 @@ use memory_reads::carriers::{curve_found, line_refusal, surface_found};
 use split_segment::refusals::{then, unless};
 
 // 2 where there is no surface, 7 where it is no plane, else 0.
-fn plane_refusal(surface: Found) -> u32
+#[tactic(auto, unfolding(geom_carriers::specs::Queries::plane_answer))]
+fn plane_refusal(surface: Option<Carrier>) -> u32
     ensures { result ≡ plane_refusal surface }
 {
     match plane_of(surface) {
-        PlaneFound::Refused(n) => n,
-        PlaneFound::Is(_) => 0,
+        Err(refusal) => refusal.number(),
+        Ok(_) => 0,
     }
 }
 

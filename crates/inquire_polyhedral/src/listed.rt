@@ -47,10 +47,8 @@ fn ids_refusal(room: &[usize; 10], words: &[u32], reals: &[f64], test: u32, ids:
     ensures { result ≡ first_of (tested room.now words.now reals.now test) ids.now }
 {
     let mut n = 0;
-    let mut k = 0;
-    while k < ids.len() {
-        n = then(n, id_refusal(room, words, reals, test, ids[k] as usize));
-        k += 1;
+    for id in ids {
+        n = then(n, id_refusal(room, words, reals, test, *id as usize));
     }
     n
 }
@@ -79,11 +77,9 @@ fn shells_refusal(
 {
     let j = list_by(test);
     let mut n = 0;
-    let mut k = 0;
-    while k < shells.len() {
-        let ids = list(room, words, j, shells[k] as usize);
+    for shell in shells {
+        let ids = list(room, words, j, *shell as usize);
         n = then(n, ids_refusal(room, words, reals, test, ids));
-        k += 1;
     }
     n
 }
@@ -101,11 +97,9 @@ pub fn regions_refusal(
     ensures { result ≡ first_of (region_tested room.now words.now reals.now test) regions.now }
 {
     let mut n = 0;
-    let mut k = 0;
-    while k < regions.len() {
-        let shells = list(room, words, REGION_SHELLS, regions[k] as usize);
+    for region in regions {
+        let shells = list(room, words, REGION_SHELLS, *region as usize);
         n = then(n, shells_refusal(room, words, reals, test, shells));
-        k += 1;
     }
     n
 }

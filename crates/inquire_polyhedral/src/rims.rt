@@ -29,10 +29,8 @@ fn fins_refusal(room: &[usize; 10], words: &[u32], reals: &[f64], fins: &[u32]) 
     ensures { result ≡ first_of (fin_straight room.now words.now reals.now) fins.now }
 {
     let mut n = 0;
-    let mut k = 0;
-    while k < fins.len() {
-        n = then(n, fin_refusal(room, words, reals, fins[k] as usize));
-        k += 1;
+    for fin in fins {
+        n = then(n, fin_refusal(room, words, reals, *fin as usize));
     }
     n
 }
@@ -54,10 +52,8 @@ fn loops_refusal(room: &[usize; 10], words: &[u32], reals: &[f64], loops: &[u32]
     ensures { result ≡ first_of (loop_straight room.now words.now reals.now) loops.now }
 {
     let mut n = 0;
-    let mut k = 0;
-    while k < loops.len() {
-        n = then(n, loop_refusal(room, words, reals, loops[k] as usize));
-        k += 1;
+    for rim in loops {
+        n = then(n, loop_refusal(room, words, reals, *rim as usize));
     }
     n
 }

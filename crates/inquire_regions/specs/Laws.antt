@@ -10,7 +10,7 @@ use Rattle.interval_arithmetic.specs.Ops.{zero_f}
 use Rattle.float_vectors.specs.Space.{◌+ᶠ◌}
 use Rattle.geom_lines_planes.specs.Refuse.{◌then◌}
 use Rattle.meaning.specs.Lists.{all, joined}
-use Rattle.meaning.specs.Model.{Model, shell}
+use Rattle.meaning.specs.Model.{Model}
 use Rattle.meaning.specs.Inquire.{Side, sides_of, side_refusal, sides_refusal, side_volume, sum_volumes}
 use Rattle.meaning_list_laws.specs.Tests.{and_both, then-none, then-assoc}
 use Rattle.meaning_list_laws.specs.Lists.{all_none, joined-none, joined_snoc}

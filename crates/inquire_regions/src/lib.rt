@@ -97,10 +97,8 @@ fn with_shell(
 {
     let faces = list(room, words, SHELL_FACES, shell as usize);
     let mut t = before;
-    let mut k = 0;
-    while k < faces.len() {
-        t = with_side(room, words, reals, whole, shell, faces[k] as usize, t);
-        k += 1;
+    for face in faces {
+        t = with_side(room, words, reals, whole, shell, *face as usize, t);
     }
     t
 }
@@ -120,10 +118,8 @@ fn with_shells(
     ensures { (l : List Side) → before ≡ tally_of whole (decode room.now words.now reals.now) l → result ≡ tally_of whole (decode room.now words.now reals.now) (l ++ joined (sides_of (decode room.now words.now reals.now)) shells.now) }
 {
     let mut t = before;
-    let mut k = 0;
-    while k < shells.len() {
-        t = with_shell(room, words, reals, whole, shells[k], t);
-        k += 1;
+    for shell in shells {
+        t = with_shell(room, words, reals, whole, *shell, t);
     }
     t
 }
@@ -155,11 +151,9 @@ pub fn regions_tally(
     ensures { result ≡ tally_of whole (decode room.now words.now reals.now) (joined (region_sides (decode room.now words.now reals.now)) regions.now) }
 {
     let mut t = none();
-    let mut k = 0;
-    while k < regions.len() {
-        let shells = solid_shells(room, words, regions[k] as usize);
+    for region in regions {
+        let shells = solid_shells(room, words, *region as usize);
         t = with_shells(room, words, reals, whole, shells, t);
-        k += 1;
     }
     t
 }

@@ -2,7 +2,7 @@
 use Rattle.std.specs.Prelude.{ℕ, zero, suc, ◌+◌, ◌-◌, ◌*◌, ◌^◌, ◌≤◌, ◌<◌, ◌≡◌, refl, Bool, true, false, ◌&&◌, ℤ, pos, nat_abs, ◌+ℤ◌, length, get_or, drop, take}
 use Rattle.std.proofs.Common.{arith, add-one, sym, ap, ◌∙◌, subst, drop-cons, SFits}
 use mathlib.Core.List.{List, [], ◌∷◌, ◌++◌, map, reverse, reverse-cons}
-use Rattle.std.proofs.Math.IntN.{+ℤ_assoc, +ℤ_idl, +ℤ_idr}
+use Rattle.std.proofs.Math.IntN.{+ℤ_assoc, +ℤ_idr}
 use Rattle.float_vectors.specs.declared.vector.Point3.{Point3}
 use Rattle.meaning_list_laws.specs.Tests.{and_both, and-true, and_assoc}
 use Rattle.meaning_sheets.specs.Sheets.{Corner, corner, grid_point, grid_points, wedge, whole_fan, whole_polygon}

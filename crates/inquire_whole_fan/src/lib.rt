@@ -21,11 +21,9 @@ pub fn grid_points(room: &[usize; 10], words: &[u32], reals: &[f64], fins: &[u32
     ensures { result ≡ grid_points (map (start_point (decode room.now words.now reals.now)) fins.now) }
 {
     let mut on = true;
-    let mut k = 0;
-    while k < fins.len() {
-        let p = start_point(room, words, reals, fins[k] as usize);
+    for fin in fins {
+        let p = start_point(room, words, reals, *fin as usize);
         on = on & grid_point(p);
-        k += 1;
     }
     on
 }
@@ -65,12 +63,10 @@ pub fn whole_polygon(
     let o = counted_corner(room, words, reals, fins, back, 0);
     let mut p = counted_corner(room, words, reals, fins, back, 1);
     let mut acc: i64 = 0;
-    let mut k = 1;
-    while k + 1 < fins.len() {
+    for k in 1..fins.len() - 1 {
         let q = counted_corner(room, words, reals, fins, back, k + 1);
         acc = acc + wedge(o, p, q);
         p = q;
-        k += 1;
     }
     acc
 }

@@ -1,6 +1,6 @@
 // For callers: interval arithmetic with outward rounding (interval.rs). Each bound is worked out in floats, rounded to nearest,
 // and then moved one float outward, unless it is a sum that is exact (W-205), so that it encloses the exact result
-// (`specs/Enclose.antt` of `interval_enclosure`).
+// (`proofs/Enclose.antt` of `interval_enclosure`).
 //
 // The family interval_: numbers known between two bounds. interval_arithmetic has the operations, interval_vectors vectors of intervals,
 // interval_enclosure the proof that bounds hold the exact number,

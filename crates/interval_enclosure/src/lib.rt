@@ -1,4 +1,4 @@
-// No code: that the intervals of `interval_arithmetic` enclose, definitions and theorems (specs/). A crate has a function, so here is one.
+// No code: that the intervals of `interval_arithmetic` enclose, definitions (specs/) and theorems (proofs/). A crate has a function, so here is one.
 #![tactic(auto)]
 
 pub fn nothing() {}

@@ -10,8 +10,8 @@ use Rattle.float_vectors.specs.Space.{◌+ᶠ◌, ◌-ᶠ◌, ◌*ᶠ◌}
 use Rattle.geom_lines_planes.specs.Refuse.{◌unless◌, ◌then◌}
 use Rattle.geom_lines_planes.specs.Geometry.{line_point, nearest, plane_distance, effective}
 use Rattle.geom_carriers.specs.declared.Carrier.TheVariants as Carriers
-use Rattle.geom_carriers.specs.declared.Found.{Found}
-use Rattle.geom_carriers.specs.declared.Found.TheVariants.{There, Missing}
+use Rattle.geom_carriers.specs.Found.{Found}
+use Rattle.std.specs.Prelude.{Some, None}
 use Rattle.geom_carriers.specs.Queries.{the_line, the_plane}
 use Rattle.geom_queries.specs.Queries.{eval_refusal, project_refusal, distance_refusal}
 use Rattle.geom_signs.specs.Signs.{off_curve_s}
@@ -168,16 +168,16 @@ sample_tests m n e c s =
 -- "so does (added) a fin whose edge has neither end and whose curve or surface is 'other'". To this rule a curve that is there and no line is "other",
 -- and so is a surface that is there and no plane, since a measurement in doubt counts as unchecked, never as sound (docs/DECISIONS.md, row 11)
 abbrev pub no_line : Found → Bool
-no_line Missing = false
-no_line (There (Carriers.Line l)) = false
-no_line (There (Carriers.Plane s)) = true
-no_line (There Carriers.Other) = true
+no_line None = false
+no_line (Some (Carriers.Line l)) = false
+no_line (Some (Carriers.Plane s)) = true
+no_line (Some Carriers.Other) = true
 
 abbrev pub no_plane : Found → Bool
-no_plane Missing = false
-no_plane (There (Carriers.Line l)) = true
-no_plane (There (Carriers.Plane s)) = false
-no_plane (There Carriers.Other) = true
+no_plane None = false
+no_plane (Some (Carriers.Line l)) = true
+no_plane (Some (Carriers.Plane s)) = false
+no_plane (Some Carriers.Other) = true
 
 abbrev pub other_ring : Model → ℕ → ℕ → ℕ → Bool
 other_ring m e c s =

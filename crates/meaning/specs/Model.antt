@@ -6,8 +6,8 @@ use Rattle.float_vectors.specs.declared.vector.Point3.{Point3}
 use Rattle.geom_lines_planes.specs.declared.tolerance.Tolerance.{Tolerance}
 use Rattle.geom_lines_planes.specs.declared.tolerance.Version.{Version}
 use Rattle.geom_carriers.specs.declared.Carrier.{Carrier}
-use Rattle.geom_carriers.specs.declared.Found.{Found}
-use Rattle.geom_carriers.specs.declared.Found.TheVariants.{There, Missing}
+use Rattle.geom_carriers.specs.Found.{Found}
+use Rattle.std.specs.Prelude.{Some, None}
 
 pub data BodyKind : Type 0 where
   acorn wire sheet solid general : BodyKind
@@ -128,7 +128,7 @@ point_of m v = (vertex m v).point
 
 -- what a table of carriers has under an id, which the queries of store.rs are asked about
 unfoldable pub carrier_at : Table Carrier → ℕ → Found
-carrier_at t i = cond (has t i) (There (t.slot i)) Missing
+carrier_at t i = cond (has t i) (Some (t.slot i)) None
 
 abbrev pub curve : Model → ℕ → Found
 curve m c = carrier_at m.curves c

@@ -13,7 +13,7 @@ use Rattle.float_vectors.specs.declared.vector.Point3.{Point3}
 use Rattle.geom_lines_planes.specs.declared.tolerance.Version.{Version}
 use Rattle.geom_lines_planes.specs.Geometry.{nearest, effective}
 use Rattle.geom_lines_planes.specs.Refuse.{◌unless◌, ◌then◌}
-use Rattle.geom_carriers.specs.declared.Found.{Found}
+use Rattle.geom_carriers.specs.Found.{Found}
 use Rattle.geom_carriers.specs.Queries.{the_line}
 use Rattle.geom_queries.specs.Queries.{project_refusal}
 use Rattle.meaning.specs.Lists.{run, all, any, member, joined, rotated, listed, the, is_some, is, same}

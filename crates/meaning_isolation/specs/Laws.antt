@@ -8,7 +8,7 @@ use mathlib.Core.List.{List, [], ◌∷◌, ◌++◌, map}
 use Rattle.std.proofs.Math.Option.{Option, none, some}
 use Rattle.geom_lines_planes.specs.Refuse.{◌then◌}
 use Rattle.geom_carriers.specs.declared.Carrier.{Carrier}
-use Rattle.geom_carriers.specs.declared.Found.TheVariants.{There, Missing}
+use Rattle.std.specs.Prelude.{Some, None}
 use Rattle.meaning.specs.Lists.{run, all, any, joined, member, listed, the, is_some}
 use Rattle.meaning.specs.Model.{Table, has, carrier_at}
 use Rattle.meaning.specs.Refuse.{Answer, refused, given, answered, first_of}
@@ -208,4 +208,4 @@ module _ {A : Type 0} where
 -- a carrier that is met
 pub carrier-same : (t u : Table Carrier) (l : List ℕ) (c : ℕ) → Agree l t u → member c l ≡ true → carrier_at t c ≡ carrier_at u c
 unfolding carrier_at
-carrier-same t u l c a h = cond_same (has t c) (has u c) (There (t.slot c)) (There (u.slot c)) Missing Missing (a.there c h) (λ e. ap There (a.same c h e)) (λ _. refl)
+carrier-same t u l c a h = cond_same (has t c) (has u c) (Some (t.slot c)) (Some (u.slot c)) None None (a.there c h) (λ e. ap Some (a.same c h e)) (λ _. refl)

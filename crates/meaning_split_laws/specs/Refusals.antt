@@ -13,8 +13,8 @@ use Rattle.interval_arithmetic.specs.declared.Sign.TheVariants.{Negative, Zero, 
 use Rattle.geom_lines_planes.specs.declared.surface.Plane.{Plane}
 use Rattle.geom_lines_planes.specs.Refuse.{◌unless◌, ◌then◌}
 use Rattle.geom_carriers.specs.declared.Carrier.TheVariants as Carriers
-use Rattle.geom_carriers.specs.declared.Found.{Found}
-use Rattle.geom_carriers.specs.declared.Found.TheVariants.{There, Missing}
+use Rattle.geom_carriers.specs.Found.{Found}
+use Rattle.std.specs.Prelude.{Some, None}
 use Rattle.geom_carriers.specs.Queries.{line_refusal, plane_refusal, the_plane}
 use Rattle.meaning.specs.Lists.{count, joined, the, is_some}
 use Rattle.meaning.specs.Model.{Model, has, face, loop, fin, edge, surface, Limits}
@@ -64,10 +64,10 @@ module _ (x : Limits) (m : Model) (e : ℕ) (t : Float) where
   row5 : (b : Bool) (c : Found) → first (1 when not b ∷ 2 when missing c ∷ 7 when not (is_line c) ∷ []) ≡ (1 unless b then line_refusal c)
   unfolding first line_refusal
   row5 false c = refl
-  row5 true Missing = refl
-  row5 true (There (Carriers.Line l)) = refl
-  row5 true (There (Carriers.Plane s)) = refl
-  row5 true (There Carriers.Other) = refl
+  row5 true None = refl
+  row5 true (Some (Carriers.Line l)) = refl
+  row5 true (Some (Carriers.Plane s)) = refl
+  row5 true (Some Carriers.Other) = refl
 
   two : (n : ℕ) (a b : Bool) → first (n when not a ∷ n when not b ∷ []) ≡ (n unless a then n unless b)
   unfolding first
@@ -110,10 +110,10 @@ module _ (x : Limits) (m : Model) (e : ℕ) (t : Float) where
       go true true false d f s r = refl
       go true true true false f s r = refl
       go true true true true false s r = refl
-      go true true true true true Missing r = refl
-      go true true true true true (There (Carriers.Line l)) r = refl
-      go true true true true true (There (Carriers.Plane p)) r = refl
-      go true true true true true (There Carriers.Other) r = refl
+      go true true true true true None r = refl
+      go true true true true true (Some (Carriers.Line l)) r = refl
+      go true true true true true (Some (Carriers.Plane p)) r = refl
+      go true true true true true (Some Carriers.Other) r = refl
 
   row11 : (seen l : List ℕ) → first (fins_steps m e t seen l) ≡ test11-fins m e t seen l
   unfolding fins_steps test11-fins first

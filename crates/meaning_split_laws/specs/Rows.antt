@@ -9,8 +9,8 @@ use Rattle.float_vectors.specs.Space.{finite_point}
 use Rattle.geom_lines_planes.specs.declared.surface.Plane.{Plane}
 use Rattle.geom_lines_planes.specs.Geometry.{line_point, effective}
 use Rattle.geom_carriers.specs.declared.Carrier.TheVariants as Carriers
-use Rattle.geom_carriers.specs.declared.Found.{Found}
-use Rattle.geom_carriers.specs.declared.Found.TheVariants.{There, Missing}
+use Rattle.geom_carriers.specs.Found.{Found}
+use Rattle.std.specs.Prelude.{Some, None}
 use Rattle.geom_carriers.specs.Queries.{the_plane}
 use Rattle.geom_signs.specs.Signs.{increasing_s, span_s, off_plane_s}
 use Rattle.meaning.specs.Lists.{all_below, member, count, joined, the, is_some}
@@ -28,20 +28,20 @@ abbrev pub ◌when◌ : ℕ → Bool → Step
 n when b = record { number = n; holds = b }
 
 abbrev pub missing : Found → Bool
-missing Missing = true
-missing (There c) = false
+missing None = true
+missing (Some c) = false
 
 abbrev pub is_line : Found → Bool
-is_line Missing = false
-is_line (There (Carriers.Line l)) = true
-is_line (There (Carriers.Plane s)) = false
-is_line (There Carriers.Other) = false
+is_line None = false
+is_line (Some (Carriers.Line l)) = true
+is_line (Some (Carriers.Plane s)) = false
+is_line (Some Carriers.Other) = false
 
 abbrev pub is_plane : Found → Bool
-is_plane Missing = false
-is_plane (There (Carriers.Line l)) = false
-is_plane (There (Carriers.Plane s)) = true
-is_plane (There Carriers.Other) = false
+is_plane None = false
+is_plane (Some (Carriers.Line l)) = false
+is_plane (Some (Carriers.Plane s)) = true
+is_plane (Some Carriers.Other) = false
 
 abbrev pub is_unresolved : Sign → Bool
 is_unresolved Negative = false

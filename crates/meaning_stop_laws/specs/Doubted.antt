@@ -8,7 +8,7 @@ use Rattle.std.proofs.Math.Option.{Option, none, some}
 use Rattle.float_vectors.specs.declared.vector.Point3.{Point3}
 use Rattle.geom_lines_planes.specs.declared.tolerance.Version.{Version}
 use Rattle.geom_lines_planes.specs.Geometry.{nearest, line_point, effective}
-use Rattle.geom_carriers.specs.declared.Found.{Found}
+use Rattle.geom_carriers.specs.Found.{Found}
 use Rattle.geom_carriers.specs.Queries.{the_line}
 use Rattle.geom_queries.specs.Queries.{project_refusal, distance_refusal}
 use Rattle.geom_signs.specs.Signs.{off_curve_s}

@@ -7,7 +7,7 @@ use Rattle.std.proofs.Math.Dec.{eqb, ltb}
 use Rattle.std.proofs.Math.ListN.{get_or}
 use Rattle.float_vectors.specs.Space.{finite_point}
 use Rattle.geom_lines_planes.specs.Refuse.{◌unless◌}
-use Rattle.geom_carriers.specs.declared.Found.{Found}
+use Rattle.geom_carriers.specs.Found.{Found}
 use Rattle.meaning.specs.Lists.{all, member, joined, the, is_some, is}
 use Rattle.meaning.specs.Model.{Model, Face, Fin, Edge, Vertex, has, face, fin, edge, point_of, curve, surface}
 use Rattle.meaning.specs.Refuse.{◌if◌}

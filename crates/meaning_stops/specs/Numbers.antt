@@ -14,7 +14,7 @@ use Rattle.geom_lines_planes.specs.Refuse.{◌unless◌, ◌then◌}
 use Rattle.geom_lines_planes.specs.declared.surface.Plane.{Plane}
 use Rattle.geom_carriers.specs.declared.Carrier.{Carrier}
 use Rattle.geom_carriers.specs.declared.Carrier.TheVariants as Carriers
-use Rattle.geom_carriers.specs.declared.Found.TheVariants.{There, Missing}
+use Rattle.std.specs.Prelude.{Some, None}
 use Rattle.geom_carriers.specs.Queries.{line_refusal, plane_refusal, the_plane}
 use Rattle.geom_signs.specs.Signs.{span_s}
 use Rattle.meaning.specs.Lists.{run, count, the, is_some}
@@ -33,7 +33,7 @@ pub line-parts : (t : Table Carrier) (c : ℕ) (r : ℕ) → (2 unless has t c t
 unfolding carrier_at line_refusal
 line-parts t c r = go (has t c) (t.slot c)
   where
-    go : (h : Bool) (k : Carrier) → (2 unless h then 7 if no_line (cond h (There k) Missing) then r) ≡ (line_refusal (cond h (There k) Missing) then r)
+    go : (h : Bool) (k : Carrier) → (2 unless h then 7 if no_line (cond h (Some k) None) then r) ≡ (line_refusal (cond h (Some k) None) then r)
     go false k = refl
     go true (Carriers.Line l) = refl
     go true (Carriers.Plane s) = refl
@@ -43,7 +43,7 @@ pub plane-parts : (t : Table Carrier) (s : ℕ) (r : ℕ) → (2 unless has t s 
 unfolding carrier_at plane_refusal
 plane-parts t s r = go (has t s) (t.slot s)
   where
-    go : (h : Bool) (k : Carrier) → (2 unless h then 7 if no_plane (cond h (There k) Missing) then r) ≡ (plane_refusal (cond h (There k) Missing) then r)
+    go : (h : Bool) (k : Carrier) → (2 unless h then 7 if no_plane (cond h (Some k) None) then r) ≡ (plane_refusal (cond h (Some k) None) then r)
     go false k = refl
     go true (Carriers.Line l) = refl
     go true (Carriers.Plane p) = refl

@@ -1,16 +1,9 @@
 -- Theorems that rest on those of specs/Laws.antt, and are proved by them. Assumes nothing.
-use Rattle.std.specs.Prelude.{ℕ, zero, suc, ◌+◌, ◌*◌, ◌≤◌, ◌<◌, ◌≡◌, refl, true, ◌&&◌, List, [], ◌∷◌, leb, ltb, length, get_or, take, drop, Float}
-use Rattle.std.proofs.Common.{zero-le, ap, inl, inr, le_of_eq, le_trans, lt_of_lt_of_le, eq-or-lt_of_le, mul-suc, mul-le-mul_left, mul-le-mul_right, arith, length-drop, length-take-le, leb-true, ltb-true}
-use Rattle.geom_lines_planes.specs.Refuse.{◌unless◌, ◌then◌}
-use Rattle.meaning.specs.Lists.{all_below}
-use Rattle.meaning.specs.Edits.{precision_ok}
-use Rattle.meaning.specs.Model.{edge}
-use Rattle.meaning_list_laws.specs.Tests.{and_both, every-at, all_below-at, then-zero, unless-zero}
-use Rattle.memory_layout.specs.Layout.{word_strides, real_strides, largest_tables, word, real, base, record_at, word_at, real_at, words_needed, reals_needed, words_of, reals_of}
-use Rattle.memory_layout.specs.Decode.{list_at, decode}
-use Rattle.memory_layout.specs.Readable.{own_ok, version_ok, record_ok, room_ok, counts_ok, table_ok, tables_ok, lent_ok, sized_ok, readable}
-use Rattle.memory_layout.specs.Entries.{list_tables, list_places, list_limits, list_of, entry_refusal}
-use Rattle.memory_layout.specs.Fit.{Small, Strides, Inside, Lent, Sized, Fit, Held, Lists}
+use Rattle.std.specs.Prelude.{ℕ, ◌≤◌, ◌<◌, ◌≡◌, List, length, Float}
+use Rattle.std.proofs.Common.{le_trans, arith}
+use Rattle.memory_layout.specs.Layout.{word_strides, real_strides, word, word_at, real_at, words_needed, reals_needed, words_of, reals_of}
+use Rattle.memory_layout.specs.Entries.{list_tables, list_places, list_limits, list_of}
+use Rattle.memory_layout.specs.Fit.{Inside, Held, Lists}
 use Rattle.memory_layout.specs.Laws.{part_length, record-inside, list-room, list_inside}
 use Rattle.memory_layout.specs.Laws.{held-length}
 

@@ -1,11 +1,9 @@
 -- Theorems that rest on those of specs/TableRows.antt, and are proved by them. Assumes nothing.
-use Rattle.std.specs.Prelude.{ℕ, suc, ◌+◌, ◌*◌, ◌-◌, ◌≤◌, ◌<◌, ◌≡◌, refl, Bool, List, Float, length, take, drop}
-use Rattle.std.proofs.Common.{le_trans, mul-suc, mul-le-mul_left, arith, length-drop, length-take-le, take_all, drop-drop}
-use Rattle.meaning.specs.Lists.{all_below}
-use Rattle.memory_layout.specs.Layout.{word_strides, real_strides, word, base, record_at, word_at, real_at, words_of, reals_of}
-use Rattle.memory_layout.specs.Readable.{record_ok, table_ok}
+use Rattle.std.specs.Prelude.{ℕ, ◌≤◌, ◌<◌, List, Float, length, drop}
+use Rattle.std.proofs.Common.{arith}
+use Rattle.memory_layout.specs.Layout.{word_strides, real_strides, word, word_at, real_at}
 use Rattle.memory_layout.specs.Fit.{Sized}
-use Rattle.memory_layout.specs.Laws.{base-mono, capacity-le}
+use Rattle.memory_layout.specs.Laws.{capacity-le}
 use Rattle.memory_layout.specs.TableRows.{TableRows, rows_fit}
 
 pub table-rows : (room w : List ℕ) (x : List Float) (k : ℕ) → Sized room w x → k < 10

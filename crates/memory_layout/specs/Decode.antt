@@ -1,5 +1,5 @@
 -- The model that the lent memory holds. A record is read off its own words w and floats x. Definitions only.
-use Rattle.std.specs.Prelude.{ℕ, zero, suc, ◌+◌, Bool, true, false, not, cond, List, eqb, take, drop, Float}
+use Rattle.std.specs.Prelude.{ℕ, zero, suc, ◌+◌, Bool, not, cond, List, eqb, take, drop, Float}
 use Rattle.std.proofs.Math.Option.{Option, none, some}
 use Rattle.float_vectors.specs.declared.vector.Point3.{Point3}
 use Rattle.float_vectors.specs.declared.vector.Vec3.{Vec3}

@@ -1,6 +1,6 @@
 -- The eight lists, by number: 0 a body's regions, 1 a region's shells, 2 a shell's faces, 3 its wire edges, 4 its acorn vertices, 5 a face's loops, 6 a loop's fins,
 -- 7 an edge's fins; and the lookup of an entry. Definitions only.
-use Rattle.std.specs.Prelude.{ℕ, Bool, List, [], ◌∷◌, ltb, length, Float}
+use Rattle.std.specs.Prelude.{ℕ, List, [], ◌∷◌, ltb, length, Float}
 use Rattle.geom_lines_planes.specs.Refuse.{◌unless◌, ◌then◌, answer}
 use Rattle.memory_layout.specs.Names.{BODIES, REGIONS, SHELLS, FACES, LOOPS, EDGES, AT_BODY_REGIONS, AT_REGION_SHELLS, AT_SHELL_FACES, AT_SHELL_WIRES, AT_SHELL_ACORNS, AT_FACE_LOOPS, AT_LOOP_FINS, AT_EDGE_FINS}
 use Rattle.memory_layout.specs.declared.entries.Entry.{Entry}

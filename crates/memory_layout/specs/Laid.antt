@@ -11,7 +11,7 @@ use Rattle.geom_lines_planes.specs.declared.tolerance.Version.TheVariants.{First
 use Rattle.geom_carriers.specs.declared.Carrier.{Carrier}
 use Rattle.geom_carriers.specs.declared.Carrier.TheVariants as Carriers
 use Rattle.meaning.specs.Lists.{run, joined}
-use Rattle.meaning.specs.Model.{Model, Table, BodyKind, acorn, wire, sheet, solid, general, Sense, positive, negative, Office, office-0, office-1, Body, Region, Shell, Face, Loop, Fin, Edge, Vertex}
+use Rattle.meaning.specs.Model.{Model, Table, BodyKind, acorn, wire, sheet, solid, general, Sense, positive, negative, Office, office-0, office-1}
 use Rattle.meaning.specs.Computing.{computing}
 use Rattle.memory_layout.specs.Decode.{list_at, shell_of, face_of, fin_of}
 use Rattle.memory_layout.specs.Readable.{version_ok, body_ok, region_ok, face_ok, fin_ok, edge_ok, vertex_ok, carrier_ok}

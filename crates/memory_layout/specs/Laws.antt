@@ -6,7 +6,7 @@ use Rattle.meaning.specs.Lists.{all_below}
 use Rattle.meaning.specs.Edits.{precision_ok}
 use Rattle.meaning.specs.Model.{edge}
 use Rattle.meaning_list_laws.specs.Tests.{and_both, every-at, all_below-at, then-zero, unless-zero}
-use Rattle.memory_layout.specs.Layout.{word_strides, real_strides, largest_tables, word, real, base, record_at, word_at, real_at, words_needed, reals_needed, words_of, reals_of}
+use Rattle.memory_layout.specs.Layout.{word_strides, real_strides, largest_tables, word, real, base, record_at, words_needed, reals_needed, words_of, reals_of}
 use Rattle.memory_layout.specs.Decode.{list_at, decode}
 use Rattle.memory_layout.specs.Readable.{own_ok, version_ok, record_ok, room_ok, counts_ok, table_ok, tables_ok, lent_ok, sized_ok, readable}
 use Rattle.memory_layout.specs.Entries.{list_tables, list_places, list_limits, list_of, entry_refusal}

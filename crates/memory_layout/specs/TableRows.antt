@@ -1,12 +1,11 @@
 -- A table's records as parts of the table's own words and floats, one behind the other: so `readable` goes through them. No reader of a public promise
 -- needs this file. Assumes nothing.
-use Rattle.std.specs.Prelude.{ℕ, suc, ◌+◌, ◌*◌, ◌-◌, ◌≤◌, ◌<◌, ◌≡◌, refl, Bool, List, Float, length, take, drop}
-use Rattle.std.proofs.Common.{le_trans, mul-suc, mul-le-mul_left, arith, length-drop, length-take-le, take_all, drop-drop}
+use Rattle.std.specs.Prelude.{ℕ, suc, ◌+◌, ◌*◌, ◌-◌, ◌≤◌, ◌<◌, ◌≡◌, Bool, List, Float, length, take, drop}
+use Rattle.std.proofs.Common.{mul-suc, mul-le-mul_left, arith, length-drop, length-take-le, take_all, drop-drop}
 use Rattle.meaning.specs.Lists.{all_below}
 use Rattle.memory_layout.specs.Layout.{word_strides, real_strides, word, base, record_at, word_at, real_at, words_of, reals_of}
 use Rattle.memory_layout.specs.Readable.{record_ok, table_ok}
-use Rattle.memory_layout.specs.Fit.{Sized}
-use Rattle.memory_layout.specs.Laws.{base-mono, capacity-le}
+use Rattle.memory_layout.specs.Laws.{base-mono}
 
 -- the i-th part of n entries
 unfoldable pub row : {A : Type 0} → List A → ℕ → ℕ → List A

@@ -17,10 +17,8 @@ fn base(from: usize, strides: &[usize; 10], room: &[usize; 10], k: usize) -> usi
     ensures { result ≡ base from strides.now room.now k }
 {
     let mut at = from;
-    let mut i = 0;
-    while i < k {
+    for i in 0..k {
         at = at + strides[i] * room[i];
-        i += 1;
     }
     at
 }

@@ -44,10 +44,8 @@ fn rows_ok(k: usize, n: usize, w: &[u32], x: &[f64]) -> bool
     let words = word_stride(k);
     let reals = real_stride(k);
     let mut ok = true;
-    let mut i = 0;
-    while i < n {
+    for i in 0..n {
         ok = ok & record_ok(k, words_row(w, words, i), reals_row(x, reals, i));
-        i += 1;
     }
     ok
 }
@@ -69,10 +67,8 @@ fn tables_ok(room: &[usize; 10], words: &[u32], reals: &[f64]) -> bool
     ensures { result ≡ tables_ok room.now words.now reals.now }
 {
     let mut ok = true;
-    let mut k = 0;
-    while k < 10 {
+    for k in 0..10 {
         ok = ok & table_ok(room, words, reals, k);
-        k += 1;
     }
     ok
 }
@@ -83,10 +79,8 @@ fn room_ok(room: &[usize; 10]) -> bool
 {
     let largest = LARGEST;
     let mut ok = true;
-    let mut k = 0;
-    while k < 10 {
+    for k in 0..10 {
         ok = ok & (room[k] <= largest[k]);
-        k += 1;
     }
     ok
 }
@@ -97,10 +91,8 @@ fn counts_ok(room: &[usize; 10], words: &[u32]) -> bool
     ensures { result ≡ counts_ok room.now words.now }
 {
     let mut ok = true;
-    let mut k = 0;
-    while k < 10 {
+    for k in 0..10 {
         ok = ok & (words[k] as usize <= room[k]);
-        k += 1;
     }
     ok
 }

@@ -13,7 +13,7 @@ ghost use Rattle.memory_layout.specs.Fit.{Sized, Fit, Lists};
 ghost use Rattle.memory_records.specs.Seen.{seen_body, seen_region, seen_shell, seen_face, seen_loop, seen_fin, seen_edge, seen_vertex};
 
 use crate::records::{body_of, edge_of, face_of, fin_of, loop_of, region_of, shell_of, vertex_of};
-use geom_carriers::{Carrier, Found};
+use geom_carriers::Carrier;
 use memory_layout::layout::{reals_of, words_of};
 use memory_layout::names::{BODIES, EDGES, FACES, FINS, LOOPS, REGIONS, SHELLS, VERTICES};
 use memory_records::records::{Body, Edge, Face, Fin, Loop, Region, Shell, Vertex, carrier_of};
@@ -100,13 +100,19 @@ pub fn carrier_at(room: &[usize; 10], words: &[u32], reals: &[f64], k: usize, i:
 }
 
 // What table k has under an id, which the queries of `geom_carriers` are asked about.
-pub fn found(room: &[usize; 10], words: &[u32], reals: &[f64], k: usize, id: usize) -> Found
+pub fn found(
+    room: &[usize; 10],
+    words: &[u32],
+    reals: &[f64],
+    k: usize,
+    id: usize,
+) -> Option<Carrier>
     requires sized { Sized room.now words.now reals.now }
     requires lt_k { (7 < k) × (k < 10) }
     ensures { result ≡ carrier_at (table room.now words.now reals.now k carrier_of) id }
 {
     if words[k] as usize <= id {
-        return Found::Missing;
+        return None;
     }
-    Found::There(carrier_at(room, words, reals, k, id))
+    Some(carrier_at(room, words, reals, k, id))
 }

@@ -1,14 +1,13 @@
 -- A record as a lookup gives it (entity.rs): the model's record, each list as its number of entries. Definitions only.
 -- `list_entry` of `memory_lists` gives the entries one by one.
 use Rattle.std.specs.Prelude.{ℕ, length}
+use Rattle.std.specs.Prelude as Prelude
 use Rattle.std.proofs.Math.Option.{Option, none, some}
 use Rattle.meaning.specs.Model as Model
 use Rattle.memory_records.specs.declared.records.BodyKind.{BodyKind}
 use Rattle.memory_records.specs.declared.records.BodyKind.TheVariants as Kinds
 use Rattle.memory_records.specs.declared.records.Sense.{Sense}
 use Rattle.memory_records.specs.declared.records.Sense.TheVariants as Senses
-use Rattle.memory_records.specs.declared.records.Ref.{Ref}
-use Rattle.memory_records.specs.declared.records.Ref.TheVariants as Refs
 use Rattle.memory_records.specs.declared.records.Body.{Body}
 use Rattle.memory_records.specs.declared.records.Region.{Region}
 use Rattle.memory_records.specs.declared.records.Shell.{Shell}
@@ -31,10 +30,13 @@ unfoldable pub seen_sense : Model.Sense → Sense
 seen_sense Model.positive = Senses.Positive
 seen_sense Model.negative = Senses.Negative
 
--- 01, "`Option` ids an enum"
+-- 01, "`Option` ids an enum": the code's `Option<u32>`
+abbrev pub Ref : Type 0
+Ref = Prelude.Option ℕ
+
 unfoldable pub seen_ref : Option ℕ → Ref
-seen_ref none = Refs.None
-seen_ref (some i) = Refs.Is i
+seen_ref none = Prelude.None
+seen_ref (some i) = Prelude.Some i
 
 -- ---- the records
 

@@ -31,13 +31,6 @@ pub enum Sense {
     Negative,
 }
 
-// An optional id.
-#[derive(Clone, Copy)]
-pub enum Ref {
-    None,
-    Is(u32),
-}
-
 #[derive(Clone, Copy)]
 pub struct Body {
     pub kind: BodyKind,
@@ -61,9 +54,9 @@ pub struct Shell {
 
 #[derive(Clone, Copy)]
 pub struct Face {
-    pub front: Ref,
-    pub back: Ref,
-    pub surface: Ref,
+    pub front: Option<u32>,
+    pub back: Option<u32>,
+    pub surface: Option<u32>,
     pub sense: Sense,
     pub loops: u32,
 }
@@ -84,9 +77,9 @@ pub struct Fin {
 
 #[derive(Clone, Copy)]
 pub struct Edge {
-    pub start: Ref,
-    pub end: Ref,
-    pub curve: Ref,
+    pub start: Option<u32>,
+    pub end: Option<u32>,
+    pub curve: Option<u32>,
     pub tolerance: Tolerance,
     pub fins: u32,
 }
@@ -119,14 +112,14 @@ pub fn sense_of(tag: u32) -> Sense
 }
 
 // The optional id at a place of a record: its tag, then the id.
-pub fn ref_at(w: &[u32], at: usize) -> Ref
+pub fn ref_at(w: &[u32], at: usize) -> Option<u32>
     requires { at + 1 < length w.now }
     ensures { result ≡ seen_ref (maybe_at w.now at) }
 {
     if w[at] == 0 {
-        return Ref::None;
+        return None;
     }
-    Ref::Is(w[at + 1])
+    Some(w[at + 1])
 }
 
 pub fn tolerance_of(tag: u32, own: f64) -> Tolerance

@@ -1,13 +1,13 @@
 -- One law for every insert and edit: a write into one record leaves all others, the used counts, the version and the precision as they were. Assumes nothing.
 use Prim.Native.Nat.{ℕ, suc, ◌+◌, ◌*◌, ◌≤◌, ◌<◌}
-use Rattle.std.proofs.Common.{le_trans, sym, ap, ◌∙◌, subst, inl, inr, length-set, get_or-set_same, get_or-set_other, drop-set-lt}
+use Rattle.std.proofs.Common.{ap, ◌∙◌, subst, inl, inr, length-set, get_or-set_same, get_or-set_other, drop-set-lt}
 use Rattle.std.proofs.Math.Nat.{mul-suc, mul-le-mul_left}
 use native.Mathlib.Omega.{arith}
 use Rattle.std.proofs.Math.Decide.{dec_lt}
-use Rattle.std.specs.Prelude.{◌≡◌, refl, ◌⊎◌, List, length, get_or, set, take, drop, replicate, Float}
+use Rattle.std.specs.Prelude.{◌≡◌, ◌⊎◌, List, length, get_or, take, drop, replicate, Float}
 use Rattle.std.proofs.lemmas.List.{length-replicate}
 use Rattle.std.specs.Float.Ieee.{nan}
-use Rattle.memory_layout.specs.Layout.{word_strides, real_strides, word, real, base, record_at, word_at, real_at, words_needed, reals_needed, words_of, reals_of}
+use Rattle.memory_layout.specs.Layout.{word_strides, real_strides, word, real, base, record_at, word_at, words_needed, reals_needed, words_of, reals_of}
 use Rattle.memory_layout.specs.Fit.{Inside}
 use Rattle.memory_layout.specs.Laws.{base-mono, record-inside, before-tables}
 use Rattle.memory_writes.specs.Put.{over, put_words, put_reals, new_words, counted}

@@ -1,5 +1,5 @@
 -- What every insert and edit keeps: the memory stays readable, and the model changes as `Change.antt` says. Assumes nothing.
-use Rattle.std.specs.Prelude.{ℕ, zero, suc, ◌+◌, ◌-◌, ◌≤◌, ◌<◌, ◌≡◌, Bool, ◌&&◌, List, eqb, ltb, leb, length, Float}
+use Rattle.std.specs.Prelude.{ℕ, zero, suc, ◌+◌, ◌≤◌, ◌<◌, ◌≡◌, Bool, ◌&&◌, List, eqb, ltb, leb, length, Float}
 use Rattle.std.proofs.Common.{lt_of_lt_of_le, sym, ◌∙◌, eqb-true, ltb-true, ltb-false, le-leb}
 use native.Mathlib.Omega.{arith}
 use Rattle.std.proofs.Math.Path.{refl, ap}

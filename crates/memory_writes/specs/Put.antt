@@ -1,5 +1,5 @@
 -- A record written into the lent memory. Definitions only.
-use Rattle.std.specs.Prelude.{ℕ, zero, suc, ◌+◌, List, [], ◌∷◌, ◌++◌, length, take, drop, set, replicate, Float}
+use Rattle.std.specs.Prelude.{ℕ, zero, suc, ◌+◌, List, ◌++◌, length, take, drop, set, replicate, Float}
 use Rattle.memory_layout.specs.Layout.{word_strides, word, word_at, real_at}
 
 -- a list with the entries a in place of those that stand from a place on: for use where they fit

@@ -6,11 +6,7 @@ ghost use Rattle.memory_writes.specs.Put.{over};
 pub fn clear(w: &mut [u32])
     ensures { w.new ≡ replicate (length w.old) 0 }
 {
-    let mut j = 0;
-    while j < w.len() {
-        w[j] = 0;
-        j += 1;
-    }
+    w.fill(0);
 }
 
 // The words of a, from a place on.
@@ -18,11 +14,7 @@ pub fn write_words(w: &mut [u32], at: usize, a: &[u32])
     requires { at + length a.now ≤ length w.old }
     ensures { w.new ≡ over at a.now w.old }
 {
-    let mut j = 0;
-    while j < a.len() {
-        w[at + j] = a[j];
-        j += 1;
-    }
+    w[at..at + a.len()].copy_from_slice(a);
 }
 
 // The floats of a.
@@ -30,11 +22,7 @@ pub fn write_reals(x: &mut [f64], a: &[f64])
     requires { length a.now ≡ length x.old }
     ensures { x.new ≡ a.now }
 {
-    let mut j = 0;
-    while j < a.len() {
-        x[j] = a[j];
-        j += 1;
-    }
+    x.copy_from_slice(a);
 }
 
 // The words of a, and behind them zeros.

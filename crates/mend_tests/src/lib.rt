@@ -62,10 +62,8 @@ fn count_one(counts: &mut [u8], i: usize)
 fn count_list(ids: &[u32], counts: &mut [u8])
     ensures { counts.new ≡ tallied counts.old ids.now }
 {
-    let mut k = 0;
-    while k < ids.len() {
-        count_one(counts, ids[k] as usize);
-        k += 1;
+    for id in ids {
+        count_one(counts, *id as usize);
     }
 }
 
@@ -77,10 +75,8 @@ fn count_listed(room: &[usize; 10], words: &[u32], k: usize, counts: &mut [u8])
 {
     let j = followed(k);
     let used = words[k] as usize;
-    let mut p = 0;
-    while p < used {
+    for p in 0..used {
         count_list(list(room, words, j, p), counts);
-        p += 1;
     }
 }
 
@@ -118,10 +114,8 @@ fn raise(room: &[usize; 10], words: &[u32], k: usize, counts: &[u8], below: &[u8
     ensures { Rows (word words.now k) (status room.now words.now k (again counts.now) (standing below.now)) own.new }
 {
     let used = words[k] as usize;
-    let mut i = 0;
-    while i < used {
+    for i in 0..used {
         own[i] = greater(again(counts, i), follows(room, words, k, below, i));
-        i += 1;
     }
 }
 

@@ -30,10 +30,8 @@ fn fins(
     ensures { Walks (model_of room.now words.now) (joined (fin_meeting l) ids.now) nums.old marks.old count nums.new marks.new result }
 {
     let mut n = count;
-    let mut k = 0;
-    while k < ids.len() {
-        n = meet(room, words, nums, marks, n, FINS, l, ids[k]);
-        k += 1;
+    for id in ids {
+        n = meet(room, words, nums, marks, n, FINS, l, *id);
     }
     n
 }
@@ -72,10 +70,8 @@ fn loops(
     ensures { Walks (model_of room.now words.now) (joined (loop_meetings (model_of room.now words.now) f) ids.now) nums.old marks.old count nums.new marks.new result }
 {
     let mut n = count;
-    let mut k = 0;
-    while k < ids.len() {
-        n = loop_(room, words, nums, marks, n, f, ids[k]);
-        k += 1;
+    for id in ids {
+        n = loop_(room, words, nums, marks, n, f, *id);
     }
     n
 }
@@ -111,10 +107,8 @@ fn faces(
     ensures { Walks (model_of room.now words.now) (joined (face_meetings (model_of room.now words.now)) ids.now) nums.old marks.old count nums.new marks.new result }
 {
     let mut n = count;
-    let mut k = 0;
-    while k < ids.len() {
-        n = face(room, words, nums, marks, n, ids[k]);
-        k += 1;
+    for id in ids {
+        n = face(room, words, nums, marks, n, *id);
     }
     n
 }
@@ -153,10 +147,8 @@ fn shells(
     ensures { Walks (model_of room.now words.now) (joined (shell_meetings (model_of room.now words.now) r) ids.now) nums.old marks.old count nums.new marks.new result }
 {
     let mut n = count;
-    let mut k = 0;
-    while k < ids.len() {
-        n = shell(room, words, nums, marks, n, r, ids[k]);
-        k += 1;
+    for id in ids {
+        n = shell(room, words, nums, marks, n, r, *id);
     }
     n
 }
@@ -195,10 +187,8 @@ fn regions(
     ensures { Walks (model_of room.now words.now) (joined (region_meetings (model_of room.now words.now) b) ids.now) nums.old marks.old count nums.new marks.new result }
 {
     let mut n = count;
-    let mut k = 0;
-    while k < ids.len() {
-        n = region(room, words, nums, marks, n, b, ids[k]);
-        k += 1;
+    for id in ids {
+        n = region(room, words, nums, marks, n, b, *id);
     }
     n
 }

@@ -47,11 +47,9 @@ pub fn apply(room: &[usize; 10], words: &mut [u32], list: &[u32])
     ensures { (l : List Change) → list.now ≡ changes_words l → words.new ≡ made_words room.now words.old l }
 {
     let n = list.len() / 6;
-    let mut i = 0;
-    while i < n {
+    for i in 0..n {
         let at = 6 * i;
         let end = at + 6;
         apply_change(room, words, &list[at..end]);
-        i += 1;
     }
 }

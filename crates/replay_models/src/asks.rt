@@ -1,6 +1,5 @@
 // Each question of the list, and whether our answer is the row's.
 use crate::rows::{Row, least, sum};
-use memory_records::records::Ref;
 use office_measures::{body_bounding_box, body_volume, check_body};
 use office_walks::{write_edges, write_faces, write_vertices};
 use replay_digits::same;
@@ -86,10 +85,10 @@ pub fn walk(room: &[usize; 10], words: &[u32], reals: &[f64], w: Row) -> bool {
 }
 
 // An optional id as a number: 0, or the id and one.
-fn optional(id: Ref) -> u64 {
+fn optional(id: Option<u32>) -> u64 {
     match id {
-        Ref::None => 0,
-        Ref::Is(i) => i as u64 + 1,
+        None => 0,
+        Some(i) => i as u64 + 1,
     }
 }
 

@@ -141,14 +141,11 @@ fn all() -> Counts {
         answers: 0,
         differ: 0,
     };
-    let mut left = 1000000u32;
-    while left != 0 {
+    for _ in 0..1000000 {
         let t = row(&mut words, &mut reals, counts);
         counts = t.counts;
-        if t.more {
-            left = left - 1;
-        } else {
-            left = 0;
+        if !t.more {
+            break;
         }
     }
     counts

@@ -80,11 +80,9 @@ pub fn least(a: usize, b: usize) -> usize
 // The sum of the first n numbers.
 pub fn sum(list: &[u32], n: usize) -> u64 {
     let mut h = 0u64;
-    let mut k = 0;
     let end = least(n, list.len());
-    while k < end {
-        h = add(h, list[k]);
-        k += 1;
+    for number in &list[..end] {
+        h = add(h, *number);
     }
     h
 }
@@ -92,11 +90,9 @@ pub fn sum(list: &[u32], n: usize) -> u64 {
 // The sum of the first n floats.
 pub fn sum_floats(list: &[f64], n: usize) -> u64 {
     let mut h = 0u64;
-    let mut k = 0;
     let end = least(n, list.len());
-    while k < end {
-        h = add_float(h, list[k]);
-        k += 1;
+    for number in &list[..end] {
+        h = add_float(h, *number);
     }
     h
 }

@@ -114,14 +114,11 @@ fn row(counts: Counts) -> After {
 // All rows, at most a million.
 fn all() -> Counts {
     let mut counts = Counts { rows: 0, differ: 0 };
-    let mut left = 1000000u32;
-    while left != 0 {
+    for _ in 0..1000000 {
         let t = row(counts);
         counts = t.counts;
-        if t.more {
-            left = left - 1;
-        } else {
-            left = 0;
+        if !t.more {
+            break;
         }
     }
     counts

@@ -4,11 +4,10 @@
 #![tactic(auto)]
 
 use float_vectors::vector::{Point3, Vec3};
-use geom_carriers::{Carrier, Found};
+use geom_carriers::Carrier;
 use geom_lines_planes::curve::Line;
 use geom_lines_planes::surface::Plane;
 use geom_lines_planes::tolerance::{Tolerance, Version, effective_tolerance};
-use geom_queries::{Evaluated, Measured, Projected};
 use interval_arithmetic::{Interval, Sign};
 use interval_vectors::Interval3;
 
@@ -153,17 +152,17 @@ fn plane(x: &[f64; 12]) -> Plane {
     }
 }
 
-fn found(x: &[f64; 12]) -> Found {
+fn found(x: &[f64; 12]) -> Option<Carrier> {
     if x[11] == 0.0 {
-        return Found::Missing;
+        return None;
     }
     if x[11] == 1.0 {
-        return Found::There(Carrier::Line(line(x)));
+        return Some(Carrier::Line(line(x)));
     }
     if x[11] == 2.0 {
-        return Found::There(Carrier::Plane(plane(x)));
+        return Some(Carrier::Plane(plane(x)));
     }
-    Found::There(Carrier::Other)
+    Some(Carrier::Other)
 }
 
 // ---- the operations
@@ -241,24 +240,24 @@ fn geometry_op(op: u32, x: &[f64; 12], out: &mut [f64; 6]) -> u32 {
     }
 }
 
-fn evaluated(curve: Found, t: f64, out: &mut [f64; 6]) -> u32 {
+fn evaluated(curve: Option<Carrier>, t: f64, out: &mut [f64; 6]) -> u32 {
     match geom_queries::eval_curve(curve, t) {
-        Evaluated::At(p) => put_point(out, p),
-        Evaluated::Refused(n) => n,
+        Ok(p) => put_point(out, p),
+        Err(refusal) => refusal.number(),
     }
 }
 
-fn projected(curve: Found, p: Point3, out: &mut [f64; 6]) -> u32 {
+fn projected(curve: Option<Carrier>, p: Point3, out: &mut [f64; 6]) -> u32 {
     match geom_queries::project_to_curve(curve, p) {
-        Projected::At(w) => put_projection(out, w.param, w.point),
-        Projected::Refused(n) => n,
+        Ok(w) => put_projection(out, w.param, w.point),
+        Err(refusal) => refusal.number(),
     }
 }
 
-fn measured(surface: Found, p: Point3, out: &mut [f64; 6]) -> u32 {
+fn measured(surface: Option<Carrier>, p: Point3, out: &mut [f64; 6]) -> u32 {
     match geom_queries::distance_to_surface(surface, p) {
-        Measured::Is(d) => put(out, d),
-        Measured::Refused(n) => n,
+        Ok(d) => put(out, d),
+        Err(refusal) => refusal.number(),
     }
 }
 

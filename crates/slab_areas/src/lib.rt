@@ -79,12 +79,9 @@ fn loop_area(room: &[usize; 10], words: &[u32], reals: &[f64], axis: u32, fins: 
     ensures { result ≡ sumℤ (steps (step_at (decode room.now words.now reals.now) axis) (closed fins.now)) }
 {
     let mut acc: i64 = 0;
-    let mut k = 0;
-    while k < fins.len() {
-        let i = fins[k] as usize;
-        let j = next_of(fins, k) as usize;
-        acc = acc + step(room, words, reals, axis, i, j);
-        k += 1;
+    for (k, fin) in fins.iter().enumerate() {
+        let next = next_of(fins, k) as usize;
+        acc = acc + step(room, words, reals, axis, *fin as usize, next);
     }
     acc
 }
@@ -122,12 +119,10 @@ pub fn write_areas(
     ensures areas_after { areas.new ≡ over 0 (map (face_area (decode room.now words.now reals.now)) faces.now) areas.old }
 {
     let mut sum: u64 = 0;
-    let mut k = 0;
-    while k < faces.len() {
-        let a = face_area(room, words, reals, faces[k] as usize);
+    for (k, face) in faces.iter().enumerate() {
+        let a = face_area(room, words, reals, *face as usize);
         areas[k] = a;
         sum = sum + a;
-        k += 1;
     }
     sum
 }

@@ -92,10 +92,8 @@ fn ids_tested(room: &[usize; 10], words: &[u32], reals: &[f64], rule: u32, ids: 
     ensures { result ≡ first_of (id_tested (decode room.now words.now reals.now) rule) ids.now }
 {
     let mut n: u64 = 0;
-    let mut k = 0;
-    while k < ids.len() {
-        n = then(n, id_tested(room, words, reals, rule, ids[k]));
-        k += 1;
+    for id in ids {
+        n = then(n, id_tested(room, words, reals, rule, *id));
     }
     n
 }
@@ -108,11 +106,9 @@ pub fn path_tested(room: &[usize; 10], words: &[u32], reals: &[f64], rule: u32, 
 {
     let mut buf = [0u32; 1024];
     let mut n: u64 = 0;
-    let mut p = 0;
-    while p < path.len() {
-        let k = part(room, words, path[p], &mut buf);
+    for source in path {
+        let k = part(room, words, *source, &mut buf);
         n = then(n, ids_tested(room, words, reals, rule, &buf[..k]));
-        p += 1;
     }
     n
 }

@@ -9,8 +9,8 @@ use Rattle.std.specs.Float.Ieee.{of_bits}
 use borrow.Author.Tests.{eq-eqb, ne_eqb}
 use Rattle.geom_lines_planes.specs.Refuse.{◌unless◌, ◌then◌}
 use Rattle.geom_carriers.specs.declared.Carrier.TheVariants as Carriers
-use Rattle.geom_carriers.specs.declared.Found.{Found}
-use Rattle.geom_carriers.specs.declared.Found.TheVariants.{There, Missing}
+use Rattle.geom_carriers.specs.Found.{Found}
+use Rattle.std.specs.Prelude.{Some, None}
 use Rattle.geom_carriers.specs.Queries.{the_plane, plane_refusal}
 use Rattle.meaning.specs.Lists.{all, the, is_some}
 use Rattle.meaning.specs.Model.{Model, has}
@@ -33,10 +33,10 @@ use Rattle.slab_faces.specs.Tested.{rim_tested, face_tested}
 -- where there is no plane, zeros
 pub no-normal : (f : Found) (n : ℕ) → plane_refusal f ≡ suc n → record { x = of_bits binary64 0; y = of_bits binary64 0; z = of_bits binary64 0 } ≡ (the_plane f).normal
 unfolding plane_refusal the_plane of_bits
-no-normal Missing n e = refl
-no-normal (There (Carriers.Line l)) n e = refl
-no-normal (There (Carriers.Plane s)) n e = absurd (omega arith)
-no-normal (There Carriers.Other) n e = refl
+no-normal None n e = refl
+no-normal (Some (Carriers.Line l)) n e = refl
+no-normal (Some (Carriers.Plane s)) n e = absurd (omega arith)
+no-normal (Some Carriers.Other) n e = refl
 
 pub id-none : (w : List ℕ) (at : ℕ) → word w at ≡ 0 → 0 ≡ the (maybe_at w at)
 id-none w at e = rw (eq-eqb (word w at) 0 e)

@@ -16,7 +16,7 @@ ghost use Rattle.inquire_sides.specs.Sides.{face_whole};
 ghost use Rattle.slab_faces.specs.Tested.{level_at, rim_tested, face_tested};
 
 use float_vectors::vector::Vec3;
-use geom_carriers::{Found, PlaneFound, plane_of};
+use geom_carriers::{Carrier, plane_of};
 use inquire_fin_starts::{start_point, starts_refusal};
 use inquire_sides::rim;
 use memory_layout::layout::words_of;
@@ -36,16 +36,17 @@ pub const ENDS: u32 = 3;
 pub const LEVEL: u32 = 6;
 
 // The normal of a plane; zeros where it is none, which nobody reads.
-fn normal_in(surface: Found) -> Vec3
+#[tactic(auto, unfolding(geom_carriers::specs::Queries::plane_answer, geom_carriers::specs::Queries::the_plane, geom_carriers::specs::Queries::plane_refusal))]
+fn normal_in(surface: Option<Carrier>) -> Vec3
     ensures { result ≡ (the_plane surface).normal }
 {
     match plane_of(surface) {
-        PlaneFound::Refused(_) => Vec3 {
+        Err(_) => Vec3 {
             x: 0.0,
             y: 0.0,
             z: 0.0,
         },
-        PlaneFound::Is(plane) => plane.normal,
+        Ok(plane) => plane.normal,
     }
 }
 
@@ -103,10 +104,8 @@ fn level_at(
     ensures { result ≡ all (level_at (decode room.now words.now reals.now) axis at) fins.now }
 {
     let mut ok = true;
-    let mut k = 0;
-    while k < fins.len() {
-        ok = ok & (height(room, words, reals, axis, fins[k] as usize) == at);
-        k += 1;
+    for fin in fins {
+        ok = ok & (height(room, words, reals, axis, *fin as usize) == at);
     }
     ok
 }
@@ -183,10 +182,8 @@ pub fn faces_tested(
     ensures { result ≡ first_of (face_tested (decode room.now words.now reals.now) rule) faces.now }
 {
     let mut n: u64 = 0;
-    let mut k = 0;
-    while k < faces.len() {
-        n = then(n, face_tested(room, words, reals, rule, faces[k]));
-        k += 1;
+    for face in faces {
+        n = then(n, face_tested(room, words, reals, rule, *face));
     }
     n
 }

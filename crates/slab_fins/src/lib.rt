@@ -56,15 +56,12 @@ pub fn broken_fin(room: &[usize; 10], words: &[u32], fins: &[u32]) -> u64
     ensures { (x : List Float) → result ≡ first_refusal (steps (open_fin (decode room.now words.now x)) (closed fins.now)) }
 {
     let mut n: u64 = 0;
-    let mut k = 0;
-    while k < fins.len() {
-        let i = fins[k];
-        let j = next_of(fins, k);
+    for (k, fin) in fins.iter().enumerate() {
+        let next = next_of(fins, k);
         n = then(
             n,
-            unless_holds(i, ends_at(room, words, i as usize, j as usize)),
+            unless_holds(*fin, ends_at(room, words, *fin as usize, next as usize)),
         );
-        k += 1;
     }
     n
 }

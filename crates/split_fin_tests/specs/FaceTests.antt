@@ -2,7 +2,7 @@
 use Rattle.std.specs.Prelude.{ℕ, List, ltb, Float}
 use Rattle.geom_lines_planes.specs.declared.surface.Plane.{Plane}
 use Rattle.geom_lines_planes.specs.Refuse.{◌unless◌, ◌then◌}
-use Rattle.geom_carriers.specs.declared.Found.{Found}
+use Rattle.geom_carriers.specs.Found.{Found}
 use Rattle.geom_carriers.specs.Queries.{plane_refusal, the_plane}
 use Rattle.geom_signs.specs.Signs.{off_plane_s}
 use Rattle.meaning.specs.Model.{surface}

@@ -5,7 +5,7 @@ use Rattle.geom_lines_planes.specs.Geometry.{line_point, effective}
 use Rattle.meaning.specs.Lists.{member, count}
 use Rattle.meaning.specs.Model.{Model, edge}
 use Rattle.meaning.specs.Refuse.{◌if◌}
-use Rattle.meaning.specs.Split.{carrier, lo, hi, parameter, split_point}
+use Rattle.meaning.specs.Split.{carrier, lo, hi, split_point}
 use Rattle.memory_layout.specs.Names.{LOOPS, FINS, LOOP_FINS, AT_LOOP_FACE, AT_FIN_LOOP, AT_FIN_EDGE}
 use Rattle.memory_layout.specs.Layout.{word, words_of}
 use Rattle.memory_layout.specs.Entries.{list_of}

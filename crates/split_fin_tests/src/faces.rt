@@ -6,7 +6,7 @@ ghost use Rattle.memory_layout.specs.Fit.{Sized};
 ghost use Rattle.split_fin_tests.specs.FaceTests.{on_planes, plane_test, face_test};
 
 use float_vectors::vector::Point3;
-use geom_carriers::{Found, PlaneFound, plane_of};
+use geom_carriers::{Carrier, plane_of};
 use geom_lines_planes::surface::Plane;
 use geom_signs::offsets::off_plane;
 use interval_arithmetic::Sign;
@@ -45,12 +45,13 @@ fn on_planes(plane: Plane, cut: Cut) -> u32
     then(lo, then(hi, at))
 }
 
-fn plane_refusal(surface: Found, cut: Cut) -> u32
+#[tactic(auto, unfolding(geom_carriers::specs::Queries::plane_answer, crate::specs::FaceTests::plane_test))]
+fn plane_refusal(surface: Option<Carrier>, cut: Cut) -> u32
     ensures { result ≡ plane_test surface cut }
 {
     match plane_of(surface) {
-        PlaneFound::Refused(n) => n,
-        PlaneFound::Is(plane) => on_planes(plane, cut),
+        Err(refusal) => refusal.number(),
+        Ok(plane) => on_planes(plane, cut),
     }
 }
 

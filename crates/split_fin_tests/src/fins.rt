@@ -23,23 +23,20 @@ pub fn fins_refusal(
     ensures { result ≡ once_each (fin_test room.now words.now reals.now edge cut) [] fins.now }
 {
     let mut n = 0;
-    let mut k = 0;
-    'fins: while k < fins.len() {
+    'fins: for (k, fin) in fins.iter().enumerate() {
         n = use_refusal(room, words, fins, k, edge);
         if n != 0 {
             break 'fins;
         }
-        let owner = owner_of(room, words, fins[k] as usize);
+        let owner = owner_of(room, words, *fin as usize);
         let entries = list(room, words, LOOP_FINS, owner);
         let mut times: usize = 0;
-        let mut j = 0;
-        while j < entries.len() {
-            times += one_if(fins[k] == entries[j]);
+        for entry in entries {
+            times += one_if(*fin == *entry);
             if 1 < times {
                 n = 1;
                 break 'fins;
             }
-            j += 1;
         }
         if times != 1 {
             n = 1;
@@ -49,7 +46,6 @@ pub fn fins_refusal(
         if n != 0 {
             break 'fins;
         }
-        k += 1;
     }
     n
 }

@@ -33,10 +33,8 @@ pub fn pcurves_refusal(room: &[usize; 10], words: &[u32], fins: &[u32]) -> u32
     ensures { result ≡ first_of (pcurve_test room.now words.now) fins.now }
 {
     let mut n = 0;
-    let mut k = 0;
-    while k < fins.len() {
-        n = then(n, pcurve_refusal(room, words, fins[k] as usize));
-        k += 1;
+    for fin in fins {
+        n = then(n, pcurve_refusal(room, words, *fin as usize));
     }
     n
 }
@@ -46,10 +44,8 @@ fn occurs(s: &[u32], x: u32) -> bool
     ensures { result ≡ member x s.now }
 {
     let mut found = false;
-    let mut j = 0;
-    while j < s.len() {
-        found = found | (x == s[j]);
-        j += 1;
+    for id in s {
+        found = found | (x == *id);
     }
     found
 }

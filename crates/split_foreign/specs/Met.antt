@@ -1,5 +1,5 @@
 -- A body has an edge exactly where its status is 1: `has-edge`; and what an office sees of the edge follows: `foreign-is`, `foreign-none`. Assumes nothing.
-use Rattle.std.specs.Prelude.{ℕ, ◌+◌, ◌<◌, ◌≡◌, Bool, List, [], ◌∷◌, ◌++◌, map, ltb, Float}
+use Rattle.std.specs.Prelude.{ℕ, ◌<◌, ◌≡◌, Bool, List, [], ◌∷◌, ◌++◌, map, ltb, Float}
 use Rattle.std.proofs.Common.{arith, ◌∙◌, lt-ltb, eq-eqb, ne_eqb}
 use Rattle.std.proofs.Math.Path.{refl, sym, ap, ap₂, fun_ext}
 use Rattle.std.proofs.Math.Bool.{true, false, not, cond, ◌&&◌, ◌||◌}

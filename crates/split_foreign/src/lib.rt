@@ -46,10 +46,8 @@ fn names(ids: &[u32], edge: usize) -> bool
     ensures { result ≡ member edge ids.now }
 {
     let mut found = false;
-    let mut k = 0;
-    while k < ids.len() {
-        found = found | (edge == ids[k] as usize);
-        k += 1;
+    for id in ids {
+        found = found | (edge == *id as usize);
     }
     found
 }
@@ -69,10 +67,8 @@ pub fn list_status(below: &[u8], ids: &[u32]) -> u8
     ensures { result ≡ greatest (standing below.now) ids.now }
 {
     let mut s = 0;
-    let mut k = 0;
-    while k < ids.len() {
-        s = greater(s, status_at(below, ids[k] as usize));
-        k += 1;
+    for id in ids {
+        s = greater(s, status_at(below, *id as usize));
     }
     s
 }
@@ -105,11 +101,9 @@ fn mark_fins(room: &[usize; 10], words: &[u32], edge: usize, own: &mut [u8])
     ensures { Rows (word words.now FINS) (fin_status room.now words.now edge) own.new }
 {
     let used = words[FINS] as usize;
-    let mut i = 0;
-    while i < used {
+    for i in 0..used {
         let w = words_of(room, words, FINS, i);
         own[i] = bit(edge == w[AT_FIN_EDGE] as usize);
-        i += 1;
     }
 }
 
@@ -121,10 +115,8 @@ fn raise(room: &[usize; 10], words: &[u32], j: usize, edge: usize, below: &[u8],
     ensures { Rows (word words.now (word list_tables j)) (record_status room.now words.now edge j (standing below.now)) own.new }
 {
     let used = words[list_table(j)] as usize;
-    let mut i = 0;
-    while i < used {
+    for i in 0..used {
         own[i] = record_status(room, words, j, edge, below, i);
-        i += 1;
     }
 }
 
@@ -154,11 +146,9 @@ fn other_with(room: &[usize; 10], words: &[u32], office: u32, statuses: &[u8]) -
 {
     let used = words[BODIES] as usize;
     let mut found = false;
-    let mut i = 0;
-    while i < used {
+    for i in 0..used {
         let other = body_for(words, office, i) != i;
         found = found | (other & (status_at(statuses, i) == 1));
-        i += 1;
     }
     found
 }

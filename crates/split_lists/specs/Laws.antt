@@ -7,9 +7,9 @@ use Rattle.std.proofs.Math.Path.{refl}
 use Rattle.memory_layout.specs.Layout.{word_strides, word, words_needed, words_of}
 use Rattle.memory_layout.specs.Fit.{Inside}
 use Rattle.memory_layout.proofs.Laws.{words-length}
-use Rattle.memory_writes.specs.Put.{over, put_words}
+use Rattle.memory_writes.specs.Put.{put_words}
 use Rattle.memory_writes.specs.Over.{length_over}
-use Rattle.memory_writes.specs.Frame.{length-put, put-there, put-elsewhere, put-before}
+use Rattle.memory_writes.specs.Frame.{length-put, put-elsewhere, put-before}
 use Rattle.split_lists.specs.Beside.{entries_for, doubled}
 use Rattle.split_lists.specs.BesideFacts.{Longer}
 use Rattle.split_lists.specs.Pass.{put_all, doubled_at}

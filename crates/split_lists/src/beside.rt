@@ -11,14 +11,12 @@ use memory_writes::write::write_words;
 fn place_of(s: &[u32], x: u32) -> usize
     ensures { result ≡ place x s.now }
 {
-    let mut j = 0;
-    while j < s.len() {
-        if x == s[j] {
+    for (j, id) in s.iter().enumerate() {
+        if x == *id {
             return j;
         }
-        j += 1;
     }
-    j
+    s.len()
 }
 
 // What stands for the entry i, written at place q: the place behind it. The new id of old k is first + k.
@@ -73,10 +71,8 @@ fn put_each(
     ensures list { w.new ≡ over q (joined (entries_for olds.now owners.now senses.now owner first) l.now) w.old }
 {
     let mut p = q;
-    let mut j = 0;
-    while j < l.len() {
-        p = put_for(w, p, olds, owners, senses, owner, first, l[j]);
-        j += 1;
+    for entry in l {
+        p = put_for(w, p, olds, owners, senses, owner, first, *entry);
     }
     p
 }

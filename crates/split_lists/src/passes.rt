@@ -72,8 +72,7 @@ pub fn double_lists(
     requires roomy { Roomy room.now words.old k place n olds.now owners.now senses.now own first }
     ensures { words.new ≡ put_all room.now k 0 (doubled_at room.now words.old k place olds.now owners.now senses.now own first) n words.old }
 {
-    let mut i = 0;
-    while i < n {
+    for i in 0..n {
         double_list(
             room,
             words,
@@ -86,6 +85,5 @@ pub fn double_lists(
             owner_if(own, i),
             first,
         );
-        i += 1;
     }
 }

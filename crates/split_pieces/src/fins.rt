@@ -28,10 +28,8 @@ pub fn fin_words(room: &[usize; 10], words: &[u32], fins: &[u32], p: usize, out:
     requires p_bound { (p < 4) × (length out.old ≡ length fins.now) }
     ensures { out.new ≡ fin_words room.now words.now p fins.now }
 {
-    let mut k = 0;
-    while k < fins.len() {
-        out[k] = fin_word(room, words, fins[k] as usize, p);
-        k += 1;
+    for (k, fin) in fins.iter().enumerate() {
+        out[k] = fin_word(room, words, *fin as usize, p);
     }
 }
 
@@ -43,10 +41,8 @@ pub fn put_fins(room: &[usize; 10], words: &mut [u32], owners: &[u32], senses: &
 {
     let from = words[FINS] as usize;
     let edge = words[EDGES];
-    let mut k = 0;
-    while k < owners.len() {
+    for k in 0..owners.len() {
         let fin = [owners[k], edge, senses[k], 0];
         put_words(room, words, FINS, from + k, 0, &fin);
-        k += 1;
     }
 }

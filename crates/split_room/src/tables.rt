@@ -18,10 +18,8 @@ fn gain(room: &[usize; 10], words: &[u32], fins: &[u32], owner: usize) -> usize
     ensures { result ≡ count_if (owned_by room.now words.now owner) fins.now }
 {
     let mut n: usize = 0;
-    let mut k = 0;
-    while k < fins.len() {
-        n += one_if(owner_of(room, words, fins[k] as usize) == owner);
-        k += 1;
+    for fin in fins {
+        n += one_if(owner_of(room, words, *fin as usize) == owner);
     }
     n
 }
@@ -45,10 +43,8 @@ fn loops_fit(room: &[usize; 10], words: &[u32], fins: &[u32]) -> bool
     ensures { result ≡ all (loop_test room.now words.now fins.now) fins.now }
 {
     let mut ok = true;
-    let mut k = 0;
-    while k < fins.len() {
+    for k in 0..fins.len() {
         ok = ok & loop_fits(room, words, fins, k);
-        k += 1;
     }
     ok
 }

@@ -15,10 +15,8 @@ pub fn count_of(s: &[u32], x: usize) -> usize
     ensures { result ≡ count x s.now }
 {
     let mut n: usize = 0;
-    let mut j = 0;
-    while j < s.len() {
-        n += one_if(x == s[j] as usize);
-        j += 1;
+    for id in s {
+        n += one_if(x == *id as usize);
     }
     n
 }
@@ -44,10 +42,8 @@ pub fn shells_ok(room: &[usize; 10], words: &[u32], edge: usize, fit: bool) -> b
 {
     let shells = words[SHELLS] as usize;
     let mut ok = true;
-    let mut s = 0;
-    while s < shells {
+    for s in 0..shells {
         ok = ok & wires_ok(room, words, edge, fit, s);
-        s += 1;
     }
     ok
 }

@@ -10,7 +10,7 @@ use Rattle.std.proofs.Math.Dec.{eqb, ltb, leb}
 use Rattle.geom_lines_planes.specs.Refuse.{◌unless◌, ◌then◌}
 use Rattle.geom_lines_planes.specs.declared.surface.Plane.{Plane}
 use Rattle.geom_carriers.specs.declared.Carrier.{Carrier}
-use Rattle.geom_carriers.specs.declared.Found.TheVariants.{There, Missing}
+use Rattle.std.specs.Prelude.{Some, None}
 use Rattle.geom_carriers.specs.Queries.{the_line, the_plane}
 use Rattle.meaning.specs.Lists.{all, all_below, count, count_if, the, is_some}
 use Rattle.meaning.specs.Model.{Model, Limits, Table, carrier_at, shell, face, loop, fin, edge, surface}
@@ -44,8 +44,8 @@ found-same : (t u : Table Carrier) → SameTable t u → (i : ℕ) → carrier_a
 unfolding carrier_at
 found-same t u s i = rw s.used (go (ltb i u.used) refl)
   where
-    go : (b : Bool) → ltb i u.used ≡ b → cond b (There (t.slot i)) Missing ≡ cond b (There (u.slot i)) Missing
-    go true q = ap There (same_in s (λ a. a) i q)
+    go : (b : Bool) → ltb i u.used ≡ b → cond b (Some (t.slot i)) None ≡ cond b (Some (u.slot i)) None
+    go true q = ap Some (same_in s (λ a. a) i q)
     go false q = refl
 
 the-in : (k : ℕ) (o : Option ℕ) → is_some o ≡ true → below_maybe k o ≡ true → ltb (the o) k ≡ true

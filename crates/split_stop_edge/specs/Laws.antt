@@ -1,37 +1,37 @@
 -- What the code tells of rows 1 to 8 is what `meaning_stops` has; and what is known where they pass. Assumes nothing.
-use Rattle.std.specs.Prelude.{ℕ, zero, suc, ◌≤◌, ◌<◌, ◌≡◌, Bool, true, false, not, cond, ◌&&◌, eqb, ltb, take, drop, Float}
+use Rattle.std.specs.Prelude.{ℕ, ◌≤◌, ◌<◌, ◌≡◌, Bool, true, false, not, cond, eqb, take, drop, Float}
 use Rattle.std.proofs.Math.Path.{refl, sym, ap, ap₂}
 use Rattle.std.proofs.Common.{◌∙◌}
 use Rattle.std.proofs.lemmas.Bool.{false≢true}
-use mathlib.Core.List.{List, [], ◌∷◌, map}
+use mathlib.Core.List.{List, [], ◌∷◌}
 use Rattle.std.proofs.Math.Option.{none, some}
 use borrow.Author.Tests.{lt-ltb, le-ltb}
-use Rattle.geom_lines_planes.specs.Refuse.{◌unless◌, ◌then◌}
+use Rattle.geom_lines_planes.specs.Refuse.{◌unless◌}
 use Rattle.geom_carriers.specs.declared.Carrier.{Carrier}
 use Rattle.geom_carriers.specs.declared.Carrier.TheVariants as Carriers
-use Rattle.geom_carriers.specs.declared.Found.TheVariants.{There, Missing}
+use Rattle.std.specs.Prelude.{Some, None}
 use Rattle.geom_carriers.specs.Queries.{line_refusal}
 use Rattle.meaning.specs.Lists.{joined, the, is_some}
-use Rattle.meaning.specs.Model.{Model, Limits, largest, Table, has, carrier_at, edge, curve}
+use Rattle.meaning.specs.Model.{Model, largest, Table, has, carrier_at, edge, curve}
 use Rattle.meaning.specs.Refuse.{◌if◌, first_refusal}
-use Rattle.meaning.specs.Split.{lo, hi, test2, test4, test5, test6, test7}
+use Rattle.meaning.specs.Split.{lo, hi, test4, test5, test6, test7}
 use Rattle.meaning.specs.Faults.{of_edge, of_vertex, no_line}
-use Rattle.meaning_list_laws.specs.Tests.{and_both, then-zero, none-refused, unless-zero}
-use Rattle.meaning_stops.specs.Stops.{this, this_curve, nothing, Row, ◌∶◌, refusal_of, part, first_stop}
-use Rattle.meaning_stops.specs.Splits.{row1, row2, row3, row3-fin, row4, row5, row6, row7, row8, bounds_stops, split_stops}
+use Rattle.meaning_list_laws.specs.Tests.{and_both, none-refused, unless-zero}
+use Rattle.meaning_stops.specs.Stops.{this, this_curve, nothing, ◌∶◌, part, first_stop}
+use Rattle.meaning_stops.specs.Splits.{row1, row2, row3, row4, row5, row6, row7, row8, bounds_stops, split_stops}
 use Rattle.meaning_stops.proofs.Laws.{stop-number}
 use Rattle.meaning_stops.specs.Numbers.{bounds-are-tests}
 use Rattle.meaning_stops.proofs.Numbers.{rows-are-tests}
 use Rattle.memory_layout.specs.Layout.{word, words_of}
-use Rattle.memory_layout.specs.Decode.{flag_at, decode}
+use Rattle.memory_layout.specs.Decode.{decode}
 use Rattle.memory_layout.specs.Entries.{list_of}
 use Rattle.split_segment.specs.Segment.{segment_at, low, high}
 use Rattle.split_bounds.specs.Ends.{ends_refusal}
 use Rattle.split_fins.specs.Laws.{unless-is}
 use Rattle.split_place.specs.SplitNumber.{edge_row}
 use Rattle.split_stop_parts.specs.declared.Stop.{Stop}
-use Rattle.split_stop_parts.specs.Told.{told, pick, tell_at, first_told, row_told, tell}
-use Rattle.split_stop_parts.specs.Laws.{part-stops, part-passes, first-assoc, row-two, row-three, row_one, row_more, rows-first, rows-one}
+use Rattle.split_stop_parts.specs.Told.{told, tell_at, first_told, row_told}
+use Rattle.split_stop_parts.specs.Laws.{part-stops, part-passes, first-assoc, row-two, row-three, row_one, rows-first, rows-one}
 use Rattle.split_stop_edge.specs.EdgeRows.{bounds_rows, edge_rows, pcurve_parts, ends_told, curve_told, vertices_told, carried_told, span_told}
 
 -- ---- a curve: "curve missing: 2; not a line: 7"
@@ -43,7 +43,7 @@ unfolding carrier_at line_refusal tell_at first_told
 line-told t c e = go (has t c) (t.slot c)
   where
     go : (h : Bool) (k : Carrier)
-        → first_told (tell_at 5 2 (2 unless h) 8 c 6 e) (tell_at 5 3 (7 if no_line (cond h (There k) Missing)) 8 c 6 e) ≡ first_told (tell_at 5 2 (2 unless h) 8 c 6 e) (tell_at 5 3 (line_refusal (cond h (There k) Missing)) 8 c 6 e)
+        → first_told (tell_at 5 2 (2 unless h) 8 c 6 e) (tell_at 5 3 (7 if no_line (cond h (Some k) None)) 8 c 6 e) ≡ first_told (tell_at 5 2 (2 unless h) 8 c 6 e) (tell_at 5 3 (line_refusal (cond h (Some k) None)) 8 c 6 e)
     go false k = refl
     go true (Carriers.Line l) = refl
     go true (Carriers.Plane s) = refl

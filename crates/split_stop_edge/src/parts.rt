@@ -49,10 +49,8 @@ pub fn pcurves_stop(room: &[usize; 10], words: &[u32], edge: usize, fins: &[u32]
     ensures { result ≡ row_told 3 (joined (pcurve_parts room.now words.now edge) fins.now) }
 {
     let mut stop = stop_at(0, 0, 0, 10, 0, 10, 0);
-    let mut k = 0;
-    while k < fins.len() {
-        stop = first(stop, pcurve_stop(room, words, edge, fins[k] as usize));
-        k += 1;
+    for fin in fins {
+        stop = first(stop, pcurve_stop(room, words, edge, *fin as usize));
     }
     stop
 }

@@ -12,15 +12,15 @@ use Rattle.geom_lines_planes.specs.Refuse.{◌unless◌}
 use Rattle.geom_lines_planes.specs.Laws.{Refuses}
 use Rattle.geom_carriers.specs.declared.Carrier.{Carrier}
 use Rattle.geom_carriers.specs.declared.Carrier.TheVariants as Carriers
-use Rattle.geom_carriers.specs.declared.Found.TheVariants.{There, Missing}
+use Rattle.std.specs.Prelude.{Some, None}
 use Rattle.geom_carriers.specs.Queries.{plane_refusal, the_plane}
 use Rattle.meaning.specs.Lists.{member, count, the, is_some}
 use Rattle.meaning.specs.Model.{Model, largest, Table, has, carrier_at, edge, surface}
 use Rattle.meaning.specs.Refuse.{◌if◌, first_refusal}
-use Rattle.meaning.specs.Split.{lo, hi, parameter, split_point, apart, start_point, end_point, test9, on_plane}
-use Rattle.meaning.specs.Faults.{of_fin, of_edge, of_vertex, no_plane}
+use Rattle.meaning.specs.Split.{lo, hi, parameter, split_point, test9, on_plane}
+use Rattle.meaning.specs.Faults.{of_fin, of_edge, no_plane}
 use Rattle.meaning_list_laws.specs.Tests.{or-false, unless-zero}
-use Rattle.meaning_stops.specs.Stops.{this, nothing, Part, part, refusal_of, first_stop}
+use Rattle.meaning_stops.specs.Stops.{this, nothing, Part, part, first_stop}
 use Rattle.meaning_stops.specs.Splits.{row9, row10, row11, row11-fin, row11-fins, split_stops}
 use Rattle.meaning_stops.proofs.Laws.{stop-number}
 use Rattle.meaning_stops.proofs.Numbers.{rows-are-tests}
@@ -28,12 +28,11 @@ use Rattle.memory_layout.specs.Layout.{word, real, words_of}
 use Rattle.memory_layout.specs.Decode.{decode}
 use Rattle.memory_layout.specs.Entries.{list_of}
 use Rattle.split_segment.specs.Segment.{segment_at}
-use Rattle.split_fin_tests.specs.declared.faces.Cut.{Cut}
 use Rattle.split_fin_tests.specs.FinTests.{cut_at}
 use Rattle.split_place.specs.SplitNumber.{place_row}
 use Rattle.walk_marks.specs.Laws.{take_more}
 use Rattle.split_stop_parts.specs.declared.Stop.{Stop}
-use Rattle.split_stop_parts.specs.Told.{told, tell_at, first_told, row_told, tell}
+use Rattle.split_stop_parts.specs.Told.{told, tell_at, first_told, row_told}
 use Rattle.split_stop_parts.specs.Laws.{part-stops, first-assoc, first-zero, tell-number, chained, row_one, row-two, row_chained, row-append, rows-first, rows-one}
 use Rattle.split_stop_place.specs.PlaceRows.{place_rows, point_told}
 use Rattle.split_stop_place.specs.FinRows.{off_told, plane_told, surface_told, face_told, loop_told, use_told, fin_told}
@@ -52,8 +51,8 @@ unfolding carrier_at plane_refusal tell_at first_told
 plane-told t s f r = go (has t s) (t.slot s)
   where
     go : (h : Bool) (k : Carrier)
-        → first_told (tell_at 11 7 (2 unless h) 9 s 3 f) (first_told (tell_at 11 8 (7 if no_plane (cond h (There k) Missing)) 9 s 3 f) r)
-        ≡ first_told (tell_at 11 7 (2 unless h) 9 s 3 f) (first_told (tell_at 11 8 (plane_refusal (cond h (There k) Missing)) 9 s 3 f) r)
+        → first_told (tell_at 11 7 (2 unless h) 9 s 3 f) (first_told (tell_at 11 8 (7 if no_plane (cond h (Some k) None)) 9 s 3 f) r)
+        ≡ first_told (tell_at 11 7 (2 unless h) 9 s 3 f) (first_told (tell_at 11 8 (plane_refusal (cond h (Some k) None)) 9 s 3 f) r)
     go false k = refl
     go true (Carriers.Line l) = refl
     go true (Carriers.Plane p) = refl

@@ -4,7 +4,7 @@ ghost use Rattle.memory_layout.specs.Decode.{decode};
 ghost use Rattle.memory_layout.specs.Fit.{Sized};
 ghost use Rattle.split_stop_place.specs.FinRows.{off_told, plane_told, surface_told, face_told};
 
-use geom_carriers::{Found, PlaneFound, plane_of};
+use geom_carriers::{Carrier, plane_of};
 use geom_lines_planes::surface::Plane;
 use geom_signs::offsets::off_plane;
 use memory_layout::layout::words_of;
@@ -31,12 +31,19 @@ fn off_stop(plane: Plane, fin: usize, owner: usize, cut: Cut) -> Stop
 }
 
 // From part 8 on: what the table of surfaces has, the ids of the surface and the face.
-fn plane_stop(found: Found, surface: usize, face: usize, fin: usize, owner: usize, cut: Cut) -> Stop
+fn plane_stop(
+    found: Option<Carrier>,
+    surface: usize,
+    face: usize,
+    fin: usize,
+    owner: usize,
+    cut: Cut,
+) -> Stop
     ensures { result ≡ plane_told found surface face fin owner cut }
 {
     match plane_of(found) {
-        PlaneFound::Refused(n) => stop_at(11, 8, n, 9, surface, 3, face),
-        PlaneFound::Is(plane) => off_stop(plane, fin, owner, cut),
+        Err(refusal) => stop_at(11, 8, refusal.number(), 9, surface, 3, face),
+        Ok(plane) => off_stop(plane, fin, owner, cut),
     }
 }
 

@@ -102,10 +102,8 @@ pub fn fins_stop(
     ensures { (t : Float) → cut ≡ cut_at (decode room.now words.now reals.now) edge t → result ≡ row_told 11 (row11-fins (decode room.now words.now reals.now) edge t [] fins.now) }
 {
     let mut stop = stop_at(0, 0, 0, 10, 0, 10, 0);
-    let mut k = 0;
-    while k < fins.len() {
+    for k in 0..fins.len() {
         stop = first(stop, fin_stop(room, words, reals, fins, k, edge, cut));
-        k += 1;
     }
     stop
 }

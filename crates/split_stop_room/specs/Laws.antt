@@ -1,22 +1,21 @@
 -- What the code tells of rows 12 and 13 is what `meaning_stops` has. Assumes nothing.
 use Rattle.std.specs.Prelude.{ℕ, ◌+◌, ◌≡◌, true, false, List, [], ◌∷◌, ◌++◌, map, leb, length, Float}
 use Rattle.std.proofs.Math.Path.{refl, ap₂}
-use Rattle.std.proofs.Common.{sym, ap, ◌∙◌}
+use Rattle.std.proofs.Common.{◌∙◌}
 use Rattle.geom_lines_planes.specs.Refuse.{◌unless◌}
 use Rattle.meaning.specs.Lists.{run}
 use Rattle.meaning.specs.Model.{Model, edge}
 use Rattle.meaning.specs.Split.{edge_fits}
 use Rattle.meaning.specs.Faults.{of_edge}
 use Rattle.meaning_stops.specs.Stops.{this, nothing, Part, part, first_stop}
-use Rattle.meaning_stops.specs.Splits.{row12, row13, row13-loops, row13-shells}
+use Rattle.meaning_stops.specs.Splits.{row12, row13-loops, row13-shells}
 use Rattle.memory_layout.specs.Layout.{word}
 use Rattle.memory_layout.specs.Decode.{decode}
 use Rattle.memory_layout.specs.Entries.{list_of}
 use Rattle.split_place.specs.Place.{wire_test, owned_by, loop_test}
 use Rattle.memory_layout.specs.Limits.{limits}
-use Rattle.split_stop_parts.specs.declared.Stop.{Stop}
-use Rattle.split_stop_parts.specs.Told.{told, tell_at, first_told, row_told, tell}
-use Rattle.split_stop_parts.specs.Laws.{first-assoc, row-append, chained, row_chained, rows-first, rows-one}
+use Rattle.split_stop_parts.specs.Told.{told, first_told, row_told}
+use Rattle.split_stop_parts.specs.Laws.{row-append, chained, row_chained, rows-first, rows-one}
 use Rattle.split_stop_room.specs.RoomRows.{room_rows, shell_part, loop_part, tables_told}
 
 module _ (room w : List ℕ) (x : List Float) (e : ℕ) where

@@ -37,11 +37,9 @@ fn shells_stop(
 {
     let shells = words[SHELLS] as usize;
     let mut stop = stop_at(0, 0, 0, 10, 0, 10, 0);
-    let mut s = 0;
-    while s < shells {
+    for s in 0..shells {
         let number = unless(refusal, wires_ok(room, words, edge, more, s));
         stop = first(stop, stop_at(row, place, number, 2, s, 10, 0));
-        s += 1;
     }
     stop
 }
@@ -67,10 +65,8 @@ fn loops_stop(room: &[usize; 10], words: &[u32], fins: &[u32]) -> Stop
     ensures { result ≡ row_told 13 (map (loop_part room.now words.now fins.now) fins.now) }
 {
     let mut stop = stop_at(0, 0, 0, 10, 0, 10, 0);
-    let mut k = 0;
-    while k < fins.len() {
+    for k in 0..fins.len() {
         stop = first(stop, loop_stop(room, words, fins, k));
-        k += 1;
     }
     stop
 }

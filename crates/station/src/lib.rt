@@ -2,17 +2,9 @@
 // the refusal, and its values in lent slots, which a refusal leaves as they were (the family c_).
 #![tactic(auto)]
 
-pub mod courses;
-pub mod drawings;
-pub mod entries;
+pub mod asking;
+pub mod editing;
 pub mod images;
-pub mod inserting;
-pub mod lookups;
-pub mod measuring;
-pub mod mending;
 pub mod models;
-pub mod setting;
+pub mod reading;
 pub mod sheets;
-pub mod slabs;
-pub mod spans;
-pub mod walking;

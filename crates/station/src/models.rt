@@ -1,11 +1,7 @@
 // Making an empty model, its precision and its version.
 ghost use Rattle.std.specs.Prelude.{◌≡◌, [], ◌∷◌};
 ghost use Rattle.geom_lines_planes.specs.Refuse.{◌unless◌};
-ghost use Rattle.memory_layout.specs.Readable.{readable};
-ghost use Rattle.memory_layout.specs.Laid.{version_tag};
-ghost use Rattle.memory_writes.specs.Put.{unless_refused};
-ghost use Rattle.edit_make.specs.Answers.{make_number, make_words, make_reals};
-ghost use Rattle.c_lent.specs.Lent.{lent, held};
+ghost use Rattle.station.specs.Words as said;
 
 // An empty model with its precision and its version.
 #[unsafe(no_mangle)]
@@ -16,9 +12,9 @@ pub extern "C" fn brunskerl_make(
     precision: f64,
     version: u32,
 ) -> u32
-    ensures answer { result ≡ make_number room.now words.old reals.old precision version }
-    ensures tables { words.new ≡ make_words room.now words.old reals.old precision version }
-    ensures floats { reals.new ≡ make_reals room.now words.old reals.old precision version }
+    ensures answer { result ≡ said.make_number room.now words.old reals.old precision version }
+    ensures tables { words.new ≡ said.make_words room.now words.old reals.old precision version }
+    ensures floats { reals.new ≡ said.make_reals room.now words.old reals.old precision version }
 {
     edit_make::make(room, words, reals, precision, version)
 }
@@ -31,8 +27,8 @@ pub extern "C" fn brunskerl_precision(
     reals: &[f64],
     value: &mut [f64; 1],
 ) -> u32
-    ensures answer { result ≡ 9 unless lent readable room words reals }
-    ensures slots { value.new ≡ unless_refused result ((held room words reals).precision ∷ []) value.old }
+    ensures answer { result ≡ 9 unless said.lent said.readable room words reals }
+    ensures slots { value.new ≡ said.unless_refused result ((said.held room words reals).precision ∷ []) value.old }
 {
     c_queries::precision(room, words, reals, value)
 }
@@ -45,8 +41,8 @@ pub extern "C" fn brunskerl_version(
     reals: &[f64],
     value: &mut [u32; 1],
 ) -> u32
-    ensures answer { result ≡ 9 unless lent readable room words reals }
-    ensures slots { value.new ≡ unless_refused result (version_tag (held room words reals).version ∷ []) value.old }
+    ensures answer { result ≡ 9 unless said.lent said.readable room words reals }
+    ensures slots { value.new ≡ said.unless_refused result (said.version_tag (said.held room words reals).version ∷ []) value.old }
 {
     c_queries::version(room, words, reals, value)
 }

@@ -91,10 +91,8 @@ fn all_finite(bytes: &[u8], n: usize) -> bool
     ensures { result ≡ all_finite (corners (triangles_in n (drop 84 bytes.now))) }
 {
     let mut ok = true;
-    let mut k = 0;
-    while k < n {
+    for k in 0..n {
         ok = ok & finite_at(bytes, 84 + 50 * k);
-        k += 1;
     }
     ok
 }
@@ -104,10 +102,8 @@ fn all_apart(bytes: &[u8], n: usize) -> bool
     ensures { result ≡ all_apart (triangles_in n (drop 84 bytes.now)) }
 {
     let mut ok = true;
-    let mut k = 0;
-    while k < n {
+    for k in 0..n {
         ok = ok & apart_at(bytes, 84 + 50 * k);
-        k += 1;
     }
     ok
 }

@@ -24,7 +24,6 @@ use Rattle.stl_format.specs.Laws.{stl-length}
 use Rattle.stl_format.specs.Statements.{count-is}
 use Rattle.stl_writer.specs.Answers.{length_number, write_number}
 use Rattle.office_stl.specs.Answers.{stl_asked, office_length_number, office_write_number, office_written}
-use Rattle.stl_effects.specs.Counts.{count_fits}
 
 -- 9 is tested once
 once : (t : Bool) (n k : ℕ) → (9 unless t then n then 9 unless t then k) ≡ (9 unless t then n then k)

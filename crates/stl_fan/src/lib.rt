@@ -46,14 +46,12 @@ fn draw_fan(
     let o = spot_of(first);
     let mut p = spot_of(second);
     let mut narrow = narrow_point(first) & narrow_point(second);
-    let mut k = 1;
-    while k + 1 < fins.len() {
+    for k in 1..fins.len() - 1 {
         let next = corner(room, words, reals, fins, back, k + 1);
         let q = spot_of(next);
         put_triangle(bytes, at + 50 * (k - 1), o, p, q);
         narrow = narrow & narrow_point(next);
         p = q;
-        k += 1;
     }
     narrow
 }

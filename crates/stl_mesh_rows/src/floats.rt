@@ -13,10 +13,8 @@ pub fn lay_tolerances(room: &[usize; 10], reals: &mut [f64], first: usize, e: us
     ensures { reals.new ≡ reals_behind room.now EDGES first edge_floats e reals.old }
 {
     let row = [0.0];
-    let mut k = 0;
-    while k < e {
+    for k in 0..e {
         put_reals(room, reals, EDGES, first + k, &row);
-        k += 1;
     }
 }
 
@@ -33,10 +31,8 @@ pub fn lay_points(room: &[usize; 10], reals: &mut [f64], first: usize, points: &
     requires v_in_bounds { 3 * v ≤ length points.now }
     ensures { reals.new ≡ reals_behind room.now VERTICES first (flat_vertex_floats points.now) v reals.old }
 {
-    let mut k = 0;
-    while k < v {
+    for k in 0..v {
         let row = point_row(points, k);
         put_reals(room, reals, VERTICES, first + k, &row);
-        k += 1;
     }
 }

@@ -63,10 +63,8 @@ pub fn lay_fins(
     requires below { Below edges.now (3 * n) 4096 }
     ensures { words.new ≡ words_behind room.now FINS (flat_fin_row first edge n numbers.now edges.now) (3 * n) words.old }
 {
-    let mut j = 0;
-    while j < n {
+    for j in 0..n {
         lay_triangle(room, words, first + j as u32, edge, numbers, edges, 3 * j);
-        j += 1;
     }
 }
 
@@ -79,13 +77,11 @@ fn fins_on(k: u32, fin: u32, edges: &[u32], m: usize, row: &mut [u32; 16]) -> us
     ensures row_len { length row.new ≡ 16 }
 {
     let mut c = 0;
-    let mut j = 0;
-    while j < m {
-        if edges[j] == k {
+    for (j, edge) in edges[..m].iter().enumerate() {
+        if *edge == k {
             row[8 + c] = fin + j as u32;
             c += 1;
         }
-        j += 1;
     }
     c
 }
@@ -128,12 +124,10 @@ pub fn lay_edges(
     requires eight { Eight edges.now n e }
     ensures { words.new ≡ words_behind room.now EDGES (flat_edge_row vertex fin n edges.now ends.now) e words.old }
 {
-    let mut k = 0;
-    while k < e {
+    for k in 0..e {
         let start = vertex + ends[2 * k];
         let end = vertex + ends[2 * k + 1];
         lay_edge(room, words, start, end, k as u32, fin, edges, 3 * n);
-        k += 1;
     }
 }
 
@@ -142,9 +136,7 @@ pub fn lay_vertices(room: &[usize; 10], words: &mut [u32], v: usize)
     ensures { words.new ≡ words_behind room.now VERTICES vertex_row v words.old }
 {
     let row: [u32; 1] = [0];
-    let mut k = 0;
-    while k < v {
+    for _ in 0..v {
         append(room, words, VERTICES, &row);
-        k += 1;
     }
 }

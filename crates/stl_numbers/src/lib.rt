@@ -43,15 +43,13 @@ fn point_place(points: &[f64], many: usize, p: Point3) -> usize
     requires { 3 * many ≤ length points.now }
     ensures { result ≡ which_of same_point p (things_in point_in 3 many points.now) }
 {
-    let mut i = 0;
-    while i < many {
+    for i in 0..many {
         let q = point_at(points, i);
         if same_point(p, q) {
             return i;
         }
-        i += 1;
     }
-    i
+    many
 }
 
 // Stored behind the others, where its place is behind them.
@@ -74,13 +72,11 @@ pub fn number_corners(bytes: &[u8], n: usize, numbers: &mut [u32], points: &mut 
     ensures { Numbered same_point flat_points (corners (stl_triangles bytes.now)) numbers.old numbers.new points.old points.new result }
 {
     let mut many = 0;
-    let mut k = 0;
-    while k < 3 * n {
+    for k in 0..3 * n {
         let p = corner_at(bytes, k);
         let at = point_place(points, many, p);
         numbers[k] = at as u32;
         many = keep_point(points, many, at, p);
-        k += 1;
     }
     many
 }
@@ -121,14 +117,12 @@ fn edge_place(ends: &[u32], many: usize, e: Ends) -> usize
     requires { 2 * many ≤ length ends.now }
     ensures { result ≡ which_of same_step (step e.from e.to) (things_in step_in 2 many ends.now) }
 {
-    let mut i = 0;
-    while i < many {
+    for i in 0..many {
         if (e.from == ends[2 * i]) & (e.to == ends[2 * i + 1]) {
             return i;
         }
-        i += 1;
     }
-    i
+    many
 }
 
 fn keep_edge(ends: &mut [u32], many: usize, at: usize, e: Ends) -> usize
@@ -149,13 +143,11 @@ pub fn number_edges(numbers: &[u32], n: usize, edges: &mut [u32], ends: &mut [u3
     ensures { Numbered same_step flat_steps (map edge_of (steps_in n numbers.now)) edges.old edges.new ends.old ends.new result }
 {
     let mut many = 0;
-    let mut k = 0;
-    while k < 3 * n {
+    for k in 0..3 * n {
         let e = edge_at(numbers, k);
         let at = edge_place(ends, many, e);
         edges[k] = at as u32;
         many = keep_edge(ends, many, at, e);
-        k += 1;
     }
     many
 }
@@ -166,12 +158,10 @@ fn fins_along(edges: &[u32], fins: usize, e: usize) -> usize
     ensures { result ≡ count e (take fins edges.now) }
 {
     let mut times: usize = 0;
-    let mut i = 0;
-    while i < fins {
-        if e == edges[i] as usize {
+    for edge in &edges[..fins] {
+        if e == *edge as usize {
             times += 1;
         }
-        i += 1;
     }
     times
 }
@@ -182,10 +172,8 @@ pub fn edges_fit(edges: &[u32], fins: usize, n: usize) -> bool
     ensures { result ≡ all_below (few (take fins edges.now)) n }
 {
     let mut ok = true;
-    let mut e = 0;
-    while e < n {
+    for e in 0..n {
         ok = ok & (fins_along(edges, fins, e) <= 8);
-        e += 1;
     }
     ok
 }

@@ -35,10 +35,8 @@ fn with_shell(
 {
     let faces = list(room, words, SHELL_FACES, shell as usize);
     let mut t = before;
-    let mut k = 0;
-    while k < faces.len() {
-        t = with_side(room, words, reals, shell, faces[k] as usize, t, bytes);
-        k += 1;
+    for face in faces {
+        t = with_side(room, words, reals, shell, *face as usize, t, bytes);
     }
     t
 }
@@ -61,10 +59,8 @@ fn with_shells(
     ensures few { result.count ≤ before.count + 0x800000 }
 {
     let mut t = before;
-    let mut k = 0;
-    while k < shells.len() {
-        t = with_shell(room, words, reals, shells[k], t, bytes);
-        k += 1;
+    for shell in shells {
+        t = with_shell(room, words, reals, *shell, t, bytes);
     }
     t
 }
@@ -88,11 +84,9 @@ pub fn draw_regions(
         narrow: true,
         count: 0,
     };
-    let mut k = 0;
-    while k < regions.len() {
-        let shells = solid_shells(room, words, regions[k] as usize);
+    for region in regions {
+        let shells = solid_shells(room, words, *region as usize);
         t = with_shells(room, words, reals, shells, t, bytes);
-        k += 1;
     }
     t
 }

@@ -37,11 +37,9 @@ pub fn lay_regions(room: &[usize; 10], words: &mut [u32], body: u32, shell: u32)
     requires shell_bound { shell ≤ 4096 }
     ensures { words.new ≡ words_behind room.now REGIONS (region_row body shell) 2 words.old }
 {
-    let mut k: u32 = 0;
-    while k < 2 {
+    for k in 0..2 {
         let row = region_row(body, shell, k);
         append(room, words, REGIONS, &row);
-        k += 1;
     }
 }
 
@@ -53,10 +51,8 @@ fn shell_row(region: u32, face: u32, n: usize) -> [u32; 514]
     let mut row = [0; 514];
     row[0] = region;
     row[1] = n as u32;
-    let mut k = 0;
-    while k < n {
+    for k in 0..n {
         row[2 + k] = face + k as u32;
-        k += 1;
     }
     row
 }
@@ -68,11 +64,9 @@ pub fn lay_shells(room: &[usize; 10], words: &mut [u32], region: u32, face: u32,
     ensures { words.new ≡ words_behind room.now SHELLS (shell_row region face n) 2 words.old }
 {
     let end = 2 + n;
-    let mut k: u32 = 0;
-    while k < 2 {
+    for k in 0..2 {
         let row = shell_row(region + k, face, n);
         append(room, words, SHELLS, &row[..end]);
-        k += 1;
     }
 }
 
@@ -88,11 +82,9 @@ pub fn lay_faces(room: &[usize; 10], words: &mut [u32], shell: u32, first: u32, 
     requires shell_bound { (shell ≤ 4096) × (first ≤ 4096) }
     ensures { words.new ≡ words_behind room.now FACES (face_row shell first) n words.old }
 {
-    let mut k = 0;
-    while k < n {
+    for k in 0..n {
         let row = face_row(shell, first, k);
         append(room, words, FACES, &row);
-        k += 1;
     }
 }
 
@@ -110,10 +102,8 @@ pub fn lay_loops(room: &[usize; 10], words: &mut [u32], face: u32, fin: u32, n: 
     requires face_bound { (face ≤ 4096) × (fin ≤ 4096) }
     ensures { words.new ≡ words_behind room.now LOOPS (loop_row face fin) n words.old }
 {
-    let mut k = 0;
-    while k < n {
+    for k in 0..n {
         let row = loop_row(face, fin, k);
         append(room, words, LOOPS, &row);
-        k += 1;
     }
 }

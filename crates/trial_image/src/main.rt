@@ -65,13 +65,7 @@ fn print_counts(words: &[u32; 8379]) {
 }
 
 fn same(a: &[u8; 4096], b: &[u8; 4096]) -> bool {
-    let mut ok = true;
-    let mut i = 0;
-    while i < 4096 {
-        ok = ok & (a[i] == b[i]);
-        i += 1;
-    }
-    ok
+    a == b
 }
 
 fn print_number(n: usize) {

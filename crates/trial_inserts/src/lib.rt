@@ -18,7 +18,7 @@ use geom_lines_planes::tolerance::Tolerance;
 use memory_layout::names::{
     BODY_REGIONS, EDGE_FINS, FACE_LOOPS, LOOP_FINS, REGION_SHELLS, SHELL_FACES,
 };
-use memory_records::records::{BodyKind, Ref, sense_of};
+use memory_records::records::{BodyKind, sense_of};
 use office_bodies::append_entry;
 
 // Its capacities leave room for one split.
@@ -156,8 +156,7 @@ fn put_body(room: &[usize; 10], words: &mut [u32; 8379], reals: &mut [f64; 158])
         OFFICE,
         BodyKind::Solid,
     ));
-    let mut i = 0u32;
-    while i < 2 {
+    for i in 0..2 {
         ok = ok & stands(insert_region(room, &mut words[..], &mut reals[..], 0, i == 1));
         ok = ok & stands(insert_shell(room, &mut words[..], &mut reals[..], i));
         ok = ok & (append_entry(room, &mut words[..], &reals[..], OFFICE, BODY_REGIONS, 0, i) == 0);
@@ -171,24 +170,21 @@ fn put_body(room: &[usize; 10], words: &mut [u32; 8379], reals: &mut [f64; 158])
                 i as usize,
                 i,
             ) == 0);
-        i += 1;
     }
     ok
 }
 
 fn put_vertices(room: &[usize; 10], words: &mut [u32; 8379], reals: &mut [f64; 158]) -> bool {
     let mut ok = true;
-    let mut i = 0;
-    while i < 8 {
+    for corner in CORNERS {
         ok = ok
             & stands(insert_vertex(
                 room,
                 &mut words[..],
                 &mut reals[..],
-                CORNERS[i],
+                corner,
                 Tolerance::Session,
             ));
-        i += 1;
     }
     ok
 }
@@ -246,9 +242,9 @@ fn put_edge(
         room,
         &mut words[..],
         &mut reals[..],
-        Ref::Is(STARTS[i]),
-        Ref::Is(ENDS[i]),
-        Ref::Is(curve),
+        Some(STARTS[i]),
+        Some(ENDS[i]),
+        Some(curve),
         Tolerance::Session,
     ));
     let listed = list_fins(room, words, reals, i);
@@ -257,10 +253,8 @@ fn put_edge(
 
 fn put_edges(room: &[usize; 10], words: &mut [u32; 8379], reals: &mut [f64; 158]) -> bool {
     let mut ok = true;
-    let mut i = 0u32;
-    while i < 12 {
+    for i in 0..12 {
         ok = ok & put_edge(room, words, reals, i as usize, i);
-        i += 1;
     }
     ok
 }
@@ -309,9 +303,9 @@ fn put_face(
         room,
         &mut words[..],
         &mut reals[..],
-        Ref::Is(0),
-        Ref::Is(1),
-        Ref::Is(id),
+        Some(0),
+        Some(1),
+        Some(id),
         sense_of(0),
     ));
     let rim = stands(insert_loop(room, &mut words[..], &mut reals[..], id));
@@ -321,27 +315,24 @@ fn put_face(
 
 fn put_faces(room: &[usize; 10], words: &mut [u32; 8379], reals: &mut [f64; 158]) -> bool {
     let mut ok = true;
-    let mut i = 0u32;
-    while i < 6 {
+    for i in 0..6 {
         ok = ok & put_face(room, words, reals, i as usize, i);
-        i += 1;
     }
     ok
 }
 
 fn put_fins(room: &[usize; 10], words: &mut [u32; 8379], reals: &mut [f64; 158]) -> bool {
     let mut ok = true;
-    let mut i = 0u32;
-    while i < 24 {
-        let edge = EDGES[i as usize];
+    for (i, edge) in EDGES.iter().enumerate() {
+        let fin = i as u32;
         ok = ok
             & stands(insert_fin(
                 room,
                 &mut words[..],
                 &mut reals[..],
-                i / 4,
-                edge,
-                sense_of(i % 4 / 2),
+                fin / 4,
+                *edge,
+                sense_of(fin % 4 / 2),
                 false,
             ));
         ok = ok
@@ -351,10 +342,9 @@ fn put_fins(room: &[usize; 10], words: &mut [u32; 8379], reals: &mut [f64; 158])
                 &reals[..],
                 OFFICE,
                 LOOP_FINS,
-                (i / 4) as usize,
-                i,
+                i / 4,
+                fin,
             ) == 0);
-        i += 1;
     }
     ok
 }

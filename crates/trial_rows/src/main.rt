@@ -42,10 +42,8 @@ fn print_number(n: u32) {
 }
 
 fn print_ids(ids: &[u32]) {
-    let mut i = 0;
-    while i < ids.len() {
-        print_number(ids[i]);
-        i += 1;
+    for id in ids {
+        print_number(*id);
     }
 }
 
@@ -165,10 +163,8 @@ fn print_area(n: u64) {
 }
 
 fn print_areas(areas: &[u64]) {
-    let mut i = 0;
-    while i < areas.len() {
-        print_area(areas[i]);
-        i += 1;
+    for area in areas {
+        print_area(*area);
     }
 }
 
@@ -266,13 +262,8 @@ fn print_fault(f: Fault) {
 
 // The faults that a list of structs begins with.
 fn print_faults(found: Kept) {
-    let list = found.list;
-    let mut i = 0;
-    while i < 4 {
-        if i < found.count {
-            print_fault(list[i]);
-        }
-        i += 1;
+    for fault in found.list.iter().take(found.count) {
+        print_fault(*fault);
     }
 }
 

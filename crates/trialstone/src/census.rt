@@ -60,10 +60,8 @@ fn fins_of(words: &[u32], reals: &[f64], id: usize) -> u64 {
 // How many fins its edges have.
 pub fn fins(words: &[u32], reals: &[f64]) -> u64 {
     let mut n = 0;
-    let mut id = 0;
-    while id < 13 {
+    for id in 0..13 {
         n = std::num::wrapping_add_u64(n, fins_of(words, reals, id));
-        id += 1;
     }
     n
 }

@@ -10,7 +10,7 @@ use Rattle.memory_layout.specs.Decode.{decode}
 use Rattle.memory_layout.specs.Readable.{readable}
 use Rattle.memory_layout.specs.Fit.{Fit}
 use Rattle.memory_layout.specs.Laws.{fit_of}
-use Rattle.memory_records.specs.declared.records.Ref.{Ref}
+use Rattle.memory_records.specs.Seen.{Ref}
 use Rattle.memory_records.specs.declared.records.Sense.{Sense}
 use Rattle.memory_records.specs.declared.records.Sense.TheVariants.{Positive, Negative}
 use Rattle.memory_records.specs.Seen.{seen_ref, seen_sense}

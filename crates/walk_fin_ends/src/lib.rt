@@ -11,13 +11,13 @@ ghost use Rattle.walk_fin_ends.specs.Laws.{turned};
 use memory_layout::names::{EDGES, FINS};
 use memory_readable::readable;
 use memory_reads::{edge_at, fin_at};
-use memory_records::records::{Ref, Sense};
+use memory_records::records::Sense;
 
 // The ends of a fin's edge, in the fin's direction.
 #[derive(Clone, Copy)]
 pub struct Tips {
-    pub start: Ref,
-    pub end: Ref,
+    pub start: Option<u32>,
+    pub end: Option<u32>,
 }
 
 // Those, or the refusal's number.
@@ -52,7 +52,7 @@ fn refusal(room: &[usize; 10], words: &[u32], reals: &[f64], fin: usize) -> u32
 }
 
 // An edge's ends, exchanged for a negative sense.
-fn directed(sense: Sense, start: Ref, end: Ref) -> Tips
+fn directed(sense: Sense, start: Option<u32>, end: Option<u32>) -> Tips
     ensures { result ≡ turned sense start end }
 {
     match sense {

@@ -1,18 +1,18 @@
 -- Laws of marks, of lent lists, and of loops that take one entry after the other. Assumes nothing.
 use Rattle.std.specs.Prelude.{ℕ, zero, suc, ◌+◌, ◌≤◌, ◌<◌, ◌≡◌, refl, Bool, true, false, not, ◌&&◌, ◌||◌, List, [], ◌∷◌, ◌++◌, map, eqb, length, get_or, set, take, drop, replicate}
-use Rattle.std.proofs.Common.{arith, add-one, zero-add, add-zero, sym, ap, ◌∙◌, subst, length-set, length-append, length-take-le, take-suc, take_at, get_or-set_same, get_or-set_other}
+use Rattle.std.proofs.Common.{arith, add-one, zero-add, add-zero, sym, ap, ◌∙◌, subst, length-set, length-take-le, take-suc, take_at, get_or-set_same, get_or-set_other}
 use Rattle.std.proofs.Math.Decide.{dec_lt}
 use Rattle.std.proofs.Math.Dec.{ltb}
 use Rattle.std.proofs.lemmas.List.{length-replicate, get_or-replicate}
 use Rattle.std.proofs.lemmas.List.Edits.{sets, sets-eq}
 use Rattle.std.proofs.Math.Seq.{length-sets}
-use borrow.Author.Tests.{ltb-true, lt-ltb, eqb-true, eqb-false, eq-eqb, ne_eqb}
+use borrow.Author.Tests.{ltb-true, lt-ltb, eqb-true, eqb-false, eq-eqb}
 use Rattle.geom_lines_planes.specs.Refuse.{◌then◌}
 use Rattle.meaning.specs.Lists.{all, member, joined, count}
 use Rattle.meaning.specs.Refuse.{first_of}
 use Rattle.meaning.specs.Formed.{bit}
 use Rattle.meaning_list_laws.specs.Tests.{and_both, or-false, first_of-snoc}
-use Rattle.meaning_list_laws.specs.Lists.{member-none, member-snoc, all_snoc, joined_snoc, count-absent, count-member, count_less, count-above, less_one, length-less, all-counted, all-at, member-counted, count-present}
+use Rattle.meaning_list_laws.specs.Lists.{member-none, member-snoc, all_snoc, joined_snoc, count-absent, count-member, count_less, less_one, length-less, all-counted, all-at, count-present}
 use Rattle.walk_marks.specs.Marks.{Marked, puts}
 
 -- ---- one entry more

@@ -12,11 +12,7 @@ ghost use Rattle.walk_marks.specs.Marks.{puts};
 pub fn clear(marks: &mut [u8])
     ensures { marks.new ≡ replicate (length marks.old) 0 }
 {
-    let mut k = 0;
-    while k < marks.len() {
-        marks[k] = 0;
-        k += 1;
-    }
+    marks.fill(0);
 }
 
 // Marks x, where the marks reach it.
@@ -34,10 +30,8 @@ pub fn has(ids: &[u32], x: u32) -> bool
     ensures { result ≡ member x ids.now }
 {
     let mut found = false;
-    let mut k = 0;
-    while k < ids.len() {
-        found = found | (x == ids[k]);
-        k += 1;
+    for id in ids {
+        found = found | (x == *id);
     }
     found
 }
@@ -47,10 +41,8 @@ pub fn all_below(ids: &[u32], used: u32) -> bool
     ensures { result ≡ all (λ x. ltb x used) ids.now }
 {
     let mut ok = true;
-    let mut k = 0;
-    while k < ids.len() {
-        ok = ok & (ids[k] < used);
-        k += 1;
+    for id in ids {
+        ok = ok & (*id < used);
     }
     ok
 }
@@ -69,9 +61,7 @@ pub fn put_all(out: &mut [u32], at: usize, ids: &[u32])
     requires { at + length ids.now ≤ 4294967296 }
     ensures { out.new ≡ puts out.old at ids.now }
 {
-    let mut k = 0;
-    while k < ids.len() {
-        put(out, at + k, ids[k]);
-        k += 1;
+    for (k, id) in ids.iter().enumerate() {
+        put(out, at + k, *id);
     }
 }

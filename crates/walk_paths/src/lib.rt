@@ -112,16 +112,14 @@ fn all_loops_followed(room: &[usize; 10], words: &[u32], faces: &[u32]) -> bool
     ensures { result ≡ all (followed room.now words.now LOOP_FINS) (joined (list_of room.now words.now FACE_LOOPS) faces.now) }
 {
     let mut ok = true;
-    let mut k = 0;
-    while k < faces.len() {
+    for face in faces {
         ok = ok
             & all_followed(
                 room,
                 words,
                 LOOP_FINS,
-                list(room, words, FACE_LOOPS, faces[k] as usize),
+                list(room, words, FACE_LOOPS, *face as usize),
             );
-        k += 1;
     }
     ok
 }

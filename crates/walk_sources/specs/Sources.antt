@@ -1,9 +1,8 @@
 -- Sources and their parts, on the lent words. No reader of a public promise needs this file. Definitions only.
 use Rattle.std.specs.Prelude.{ℕ, ◌+◌, ◌*◌, ◌/◌, ◌%◌, ◌≤◌, ◌<◌, ◌≡◌, Bool, true, cond, ◌&&◌, List, [], ◌∷◌, ◌++◌, map, eqb, ltb, length}
-use Rattle.meaning.specs.Lists.{all, listed}
+use Rattle.meaning.specs.Lists.{all}
 use Rattle.memory_layout.specs.Names.{REGIONS, SHELLS, FACES, LOOPS, FINS, EDGES, VERTICES, LOOP_FINS, EDGE_FINS, AT_FIN_EDGE, AT_EDGE_START, AT_EDGE_START_ID, AT_EDGE_END, AT_EDGE_END_ID}
 use Rattle.memory_layout.specs.Layout.{word, words_of}
-use Rattle.memory_layout.specs.Decode.{maybe_at}
 use Rattle.memory_layout.specs.Entries.{list_tables, list_of}
 use Rattle.walk_marks.specs.Marks.{puts}
 

@@ -31,11 +31,9 @@ fn fin_edges(room: &[usize; 10], words: &[u32], fins: &[u32], buf: &mut [u32])
     requires fins_value { all (λ x. ltb x (word words.now FINS)) fins.now ≡ true }
     ensures { buf.new ≡ puts buf.old 0 (map (fin_edge room.now words.now) fins.now) }
 {
-    let mut k = 0;
-    while k < fins.len() {
-        let fin = words_of(room, words, FINS, fins[k] as usize);
+    for (k, id) in fins.iter().enumerate() {
+        let fin = words_of(room, words, FINS, *id as usize);
         put(buf, k, fin[AT_FIN_EDGE]);
-        k += 1;
     }
 }
 
@@ -86,10 +84,8 @@ pub fn add_sources(path: &mut [u32], m: usize, k: u32, ids: &[u32])
     requires ids_value { all (λ x. ltb x 4096) ids.now ≡ true }
     ensures { path.new ≡ puts path.old m (sourced k ids.now) }
 {
-    let mut i = 0;
-    while i < ids.len() {
-        put(path, m + i, 8 * ids[i] + k);
-        i += 1;
+    for (i, id) in ids.iter().enumerate() {
+        put(path, m + i, 8 * *id + k);
     }
 }
 
@@ -112,10 +108,8 @@ pub fn all_followed(room: &[usize; 10], words: &[u32], j: usize, ids: &[u32]) ->
     ensures { result ≡ all (followed room.now words.now j) ids.now }
 {
     let mut ok = true;
-    let mut k = 0;
-    while k < ids.len() {
-        ok = ok & record_followed(room, words, j, ids[k] as usize);
-        k += 1;
+    for id in ids {
+        ok = ok & record_followed(room, words, j, *id as usize);
     }
     ok
 }
@@ -138,12 +132,10 @@ pub fn gather(
     ensures path_after { path.new ≡ puts path.old m (sourced k (joined (list_of room.now words.now j) ids.now)) }
 {
     let mut n = m;
-    let mut i = 0;
-    while i < ids.len() {
-        let more = list(room, words, j, ids[i] as usize);
+    for id in ids {
+        let more = list(room, words, j, *id as usize);
         add_sources(path, n, k, more);
         n = n + more.len();
-        i += 1;
     }
     n
 }

@@ -1,13 +1,13 @@
 -- Laws of first meetings over a path. Assumes nothing.
-use Rattle.std.specs.Prelude.{ℕ, zero, suc, ◌+◌, ◌≤◌, ◌<◌, ◌≡◌, refl, Bool, true, false, cond, ◌&&◌, ◌||◌, List, [], ◌∷◌, ◌++◌, length, get_or, set, take, drop}
+use Rattle.std.specs.Prelude.{ℕ, ◌+◌, ◌≤◌, ◌<◌, ◌≡◌, refl, Bool, true, false, cond, ◌&&◌, ◌||◌, List, [], ◌∷◌, ◌++◌, length, get_or, set, take, drop}
 use Rattle.std.proofs.Common.{arith, add-one, zero-add, add-zero, sym, ap, ◌∙◌, subst, append_assoc, append-nil, length-append, length-take-le, drop-set-lt, take-suc-set, get_or-drop, drop-drop}
 use Rattle.std.proofs.lemmas.List.{take-set-le}
 use Rattle.meaning.specs.Lists.{all, member, joined, meet, meets, firsts}
 use Rattle.meaning_list_laws.specs.Lists.{all_both, member-append, member-firsts, member-meets, meet-old, meet-new, meets-none, meets-snoc, firsts-append}
 use Rattle.walk_marks.specs.Marks.{Marked, puts}
 use Rattle.walk_marks.specs.Laws.{take_more, joined-turn, marked_more, marked-same, puts_none, puts-append, puts-taken, puts-length}
-use Rattle.walk_sources.specs.Sources.{part_of, Source, Sources, Took}
-use Rattle.walk_visits.specs.Visits.{ids_of, Fresh, Freshing, Visited}
+use Rattle.walk_sources.specs.Sources.{Took}
+use Rattle.walk_visits.specs.Visits.{Fresh, Freshing, Visited}
 
 -- ---- one source more
 

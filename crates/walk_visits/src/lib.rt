@@ -20,11 +20,9 @@ pub fn all_listed(room: &[usize; 10], words: &[u32], path: &[u32], used: u32) ->
 {
     let mut buf = [0u32; 1024];
     let mut ok = true;
-    let mut p = 0;
-    while p < path.len() {
-        let n = part(room, words, path[p], &mut buf);
+    for source in path {
+        let n = part(room, words, *source, &mut buf);
         ok = ok & all_below(&buf[..n], used);
-        p += 1;
     }
     ok
 }
@@ -38,11 +36,9 @@ fn listed(room: &[usize; 10], words: &[u32], path: &[u32], p: usize, x: u32) -> 
 {
     let mut buf = [0u32; 1024];
     let mut found = false;
-    let mut q = 0;
-    while q < p {
-        let n = part(room, words, path[q], &mut buf);
+    for source in &path[..p] {
+        let n = part(room, words, *source, &mut buf);
         found = found | has(&buf[..n], x);
-        q += 1;
     }
     found
 }
@@ -96,14 +92,12 @@ pub fn fresh(
     ensures { Fresh (ids_of room.now words.now (take p path.now)) (take n buf.old) buf.new marks.new n result }
 {
     let mut m = 0;
-    let mut k = 0;
-    while k < n {
+    for k in 0..n {
         let x = buf[k];
         let seen = met(room, words, path, p, &marks[..], &buf[..m], x);
         mark(marks, x);
         put(buf, m, x);
         m = counted(seen, m);
-        k += 1;
     }
     m
 }
@@ -125,13 +119,11 @@ pub fn visit(
 {
     let mut buf = [0u32; 1024];
     let mut n = 0;
-    let mut p = 0;
-    while p < path.len() {
-        let k = part(room, words, path[p], &mut buf);
+    for (p, source) in path.iter().enumerate() {
+        let k = part(room, words, *source, &mut buf);
         let m = fresh(room, words, path, p, marks, &mut buf, k);
         put_all(out, n, &buf[..m]);
         n = n + m;
-        p += 1;
     }
     n
 }

@@ -6,10 +6,10 @@ use borrow.Author.Rules.{rules}
 use Rattle.check_edge.proofs.end_of.Goals as goal
 
 pub end_test-requires : goal.end_test-requires
-end_test-requires c = record { sized = c.requires.sized; enough = enough-same (one_end _ _ _ c.in-Is.is) c.requires.enough }
+end_test-requires c = record { sized = c.requires.sized; enough = enough-same (one_end _ _ _ c.in-Some.is) c.requires.enough }
 
 pub returns-in-None : goal.returns-in-None
 returns-in-None c = noted-same (sym (no_end _ _ c.in-None.is)) (noted-none _ _)
 
-pub returns-in-Is : goal.returns-in-Is
-returns-in-Is c = noted-same (sym (one_end _ _ _ c.in-Is.is)) c.end_test.ensures
+pub returns-in-Some : goal.returns-in-Some
+returns-in-Some c = noted-same (sym (one_end _ _ _ c.in-Some.is)) c.end_test.ensures

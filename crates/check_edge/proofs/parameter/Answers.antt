@@ -10,6 +10,6 @@ pub returns-in-None : goal.returns-in-None
 unfolding param_of
 returns-in-None c = ap (λ r. param_of (decode c.args.room.now c.args.words.now c.args.reals.now) c.args.curve (ref_of r)) (sym c.in-None.is)
 
-pub returns-in-Is : goal.returns-in-Is
+pub returns-in-Some : goal.returns-in-Some
 unfolding param_of
-returns-in-Is c = c.parameter_at.ensures ∙ ap (λ r. param_of (decode c.args.room.now c.args.words.now c.args.reals.now) c.args.curve (ref_of r)) (sym c.in-Is.is)
+returns-in-Some c = c.parameter_at.ensures ∙ ap (λ r. param_of (decode c.args.room.now c.args.words.now c.args.reals.now) c.args.curve (ref_of r)) (sym c.in-Some.is)

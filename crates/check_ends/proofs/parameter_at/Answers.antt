@@ -14,9 +14,9 @@ pub returns-then-words-v : goal.returns-then-words-v
 unfolding decode
 returns-then-words-v c = param-missing (decode c.args.room.now c.args.words.now c.args.reals.now) c.args.curve c.args.v (le-ltb _ _ c.if-words-v.true)
 
-pub returns-in-Refused : goal.returns-in-Refused
-returns-in-Refused c = param-refused (decode c.args.room.now c.args.words.now c.args.reals.now) c.args.curve c.args.v _ c.vertex_at.ensures _ c.project_to_curve.ensures _ c.in-Refused.is
+pub returns-in-Err : goal.returns-in-Err
+returns-in-Err c = param-refused (decode c.args.room.now c.args.words.now c.args.reals.now) c.args.curve c.args.v _ c.vertex_at.ensures _ c.project_to_curve.ensures _ c.in-Err.is
 
-pub returns-in-At : goal.returns-in-At
+pub returns-in-Ok : goal.returns-in-Ok
 unfolding decode
-returns-in-At c = param-given (decode c.args.room.now c.args.words.now c.args.reals.now) c.args.curve c.args.v _ c.vertex_at.ensures _ c.project_to_curve.ensures _ c.in-At.is (lt-ltb _ _ c.if-words-v.false)
+returns-in-Ok c = param-given (decode c.args.room.now c.args.words.now c.args.reals.now) c.args.curve c.args.v _ c.vertex_at.ensures _ c.project_to_curve.ensures _ c.in-Ok.is (lt-ltb _ _ c.if-words-v.false)

@@ -1,33 +1,18 @@
 -- `check_face::all_loops` meets its contract: a turn of the loop is one loop more. Assumes nothing.
-use native.Mathlib.Omega.{arith}
-use mathlib.Core.Path.{◌≡◌, refl}
-use Prim.Native.Nat.{◌≤◌, ◌<◌, ◌-◌}
-use lib.ListN.{length, take}
+use Rattle.std.proofs.Common.{arith}
 use Rattle.meaning.specs.Lists.{joined}
 use Rattle.meaning.specs.Faults.{loop_findings}
 use Rattle.memory_layout.specs.Decode.{decode}
-use Rattle.check_reasons.specs.Log.{Noted}
 use Rattle.check_reasons.specs.Laws.{noted-none, noted-turn, enough-turn}
 use Rattle.check_loop.specs.Loop.{options}
-use Rattle.check_loop.specs.Laws.{each-done}
-use borrow.Author.Rules.{rules}
 use Rattle.check_face.proofs.all_loops.Goals as goal
 
-pub loop-k-init : goal.loop-k-init
+pub loop-l-init : goal.loop-l-init
 unfolding joined
-loop-k-init c = (omega arith, refl, noted-none _ _)
+loop-l-init c = noted-none _ _
 
 pub loop_-tally-requires : goal.loop_-tally-requires
-loop_-tally-requires c = let h : c.loop-k.k < length c.args.loops.now = omega arith in record { fit = c.requires.fit; n_bound = c.requires.n_bound; enough = enough-turn (loop_findings (decode c.args.room.now c.args.words.now c.args.reals.now) (options c.args.geometry c.args.n) c.args.f) c.args.loops.now c.loop-k.k h c.requires.enough c.loop-k.invariant.2 }
+loop_-tally-requires c = record { fit = c.requires.fit; n_bound = c.requires.n_bound; enough = enough-turn (loop_findings (decode c.args.room.now c.args.words.now c.args.reals.now) (options c.args.geometry c.args.n) c.args.f) c.args.loops.now c.loop-l.l-index (omega arith) c.requires.enough c.loop-l.invariant }
 
-pub loop-k-smaller : goal.loop-k-smaller
-loop-k-smaller c = omega arith
-
-pub loop-k-preserved : goal.loop-k-preserved
-loop-k-preserved c = let h : c.loop-k.k < length c.args.loops.now = omega arith in (omega arith, omega (arith, c.loop_-tally.ensures.long), noted-turn (loop_findings (decode c.args.room.now c.args.words.now c.args.reals.now) (options c.args.geometry c.args.n) c.args.f) c.args.loops.now c.loop-k.k h c.loop-k.invariant.2 c.loop_-tally.ensures)
-
-pub shape_of-nums : goal.shape_of-nums
-shape_of-nums c = omega arith
-
-pub returns : goal.returns
-returns c = each-done (loop_findings (decode c.args.room.now c.args.words.now c.args.reals.now) (options c.args.geometry c.args.n) c.args.f) c.args.loops.now c.loop-k.k (omega arith) c.loop-k.invariant.2
+pub loop-l-preserved : goal.loop-l-preserved
+loop-l-preserved c = noted-turn (loop_findings (decode c.args.room.now c.args.words.now c.args.reals.now) (options c.args.geometry c.args.n) c.args.f) c.args.loops.now c.loop-l.l-index (omega arith) c.loop-l.invariant c.loop_-tally.ensures

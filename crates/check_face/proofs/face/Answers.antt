@@ -1,7 +1,7 @@
 -- `check_face::face` meets its contract: by whether the face is there, and from which shell it is seen. Assumes nothing.
 use native.Mathlib.Omega.{arith}
 use mathlib.Core.Path.{sym, ◌∙◌}
-use borrow.Author.Tests.{le-ltb, lt-ltb, not-true, not-false}
+use borrow.Author.Tests.{le-ltb, lt-ltb}
 use Rattle.memory_records.specs.Laws.{counts-there}
 use Rattle.memory_layout.specs.Decode.{decode}
 use Rattle.memory_layout.specs.Laws.{lists_of}

@@ -13,13 +13,13 @@ pub note-requires : goal.note-requires
 note-requires c = record { n_nonzero = search rules; enough = enough-same (curve-none (decode c.args.room.now c.args.words.now c.args.reals.now) c.args.n c.args.e _ c.edge_at-edge.ensures c.args.surface c.in-None.is) c.requires.enough }
 
 pub carried_on-requires : goal.carried_on-requires
-carried_on-requires c = record { fit = c.requires.fit; n_bound = c.requires.n_bound; enough = enough-same (carriers-both (decode c.args.room.now c.args.words.now c.args.reals.now) c.args.n c.args.e _ c.edge_at-edge.ensures c.args.surface _ _ c.in-Is.is c.in-Is-surface.is) c.requires.enough }
+carried_on-requires c = record { fit = c.requires.fit; n_bound = c.requires.n_bound; enough = enough-same (carriers-both (decode c.args.room.now c.args.words.now c.args.reals.now) c.args.n c.args.e _ c.edge_at-edge.ensures c.args.surface _ _ c.in-Some.is c.in-Some-surface.is) c.requires.enough }
 
 pub returns-in-None : goal.returns-in-None
 returns-in-None c = noted-same (sym (curve-none (decode c.args.room.now c.args.words.now c.args.reals.now) c.args.n c.args.e _ c.edge_at-edge.ensures c.args.surface c.in-None.is)) c.note.ensures
 
 pub returns-in-None-surface : goal.returns-in-None-surface
-returns-in-None-surface c = noted-same (sym (surface-none (decode c.args.room.now c.args.words.now c.args.reals.now) c.args.n c.args.e _ c.edge_at-edge.ensures c.args.surface _ c.in-Is.is c.in-None-surface.is)) (noted-none _ _)
+returns-in-None-surface c = noted-same (sym (surface-none (decode c.args.room.now c.args.words.now c.args.reals.now) c.args.n c.args.e _ c.edge_at-edge.ensures c.args.surface _ c.in-Some.is c.in-None-surface.is)) (noted-none _ _)
 
-pub returns-in-Is-surface : goal.returns-in-Is-surface
-returns-in-Is-surface c = noted-same (sym (carriers-both (decode c.args.room.now c.args.words.now c.args.reals.now) c.args.n c.args.e _ c.edge_at-edge.ensures c.args.surface _ _ c.in-Is.is c.in-Is-surface.is)) c.carried_on.ensures
+pub returns-in-Some-surface : goal.returns-in-Some-surface
+returns-in-Some-surface c = noted-same (sym (carriers-both (decode c.args.room.now c.args.words.now c.args.reals.now) c.args.n c.args.e _ c.edge_at-edge.ensures c.args.surface _ _ c.in-Some.is c.in-Some-surface.is)) c.carried_on.ensures

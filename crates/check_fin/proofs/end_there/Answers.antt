@@ -6,10 +6,10 @@ use borrow.Author.Rules.{rules}
 use Rattle.check_fin.proofs.end_there.Goals as goal
 
 pub note_if-requires : goal.note_if-requires
-note_if-requires c = record { n_nonzero = search rules; enough = enough-same (one_end _ _ _ c.in-Is.is) c.requires }
+note_if-requires c = record { n_nonzero = search rules; enough = enough-same (one_end _ _ _ c.in-Some.is) c.requires }
 
 pub returns-in-None : goal.returns-in-None
 returns-in-None c = noted-same (sym (no_end _ _ c.in-None.is)) (noted-none _ _)
 
-pub returns-in-Is : goal.returns-in-Is
-returns-in-Is c = noted-same (sym (one_end _ _ _ c.in-Is.is)) c.note_if.ensures
+pub returns-in-Some : goal.returns-in-Some
+returns-in-Some c = noted-same (sym (one_end _ _ _ c.in-Some.is)) c.note_if.ensures

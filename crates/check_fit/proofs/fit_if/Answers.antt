@@ -1,5 +1,4 @@
 -- `check_fit::fit_if` meets its contract. Assumes nothing.
-use borrow.Author.Tests.{not-true, not-false}
 use Rattle.check_fit.proofs.fit_if.Goals as goal
 
 pub returns-then-not-valid : goal.returns-then-not-valid

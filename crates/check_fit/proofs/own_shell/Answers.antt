@@ -3,7 +3,6 @@ use native.Mathlib.Omega.{arith}
 use mathlib.Core.Path.{ap, ap₂, ◌∙◌}
 use mathlib.Core.Bool.{◌&&◌}
 use borrow.Author.Tests.{le-ltb, lt-ltb}
-use borrow.Author.Rules.{rules}
 use Rattle.meaning.specs.Lists.{member}
 use Rattle.memory_layout.specs.Laws.{capacity-le}
 use Rattle.walk_sources.specs.Laws.{used-words}

@@ -2,7 +2,6 @@
 use mathlib.Core.Path.{ap, ap₂, ◌∙◌}
 use mathlib.Core.Bool.{◌&&◌}
 use mathlib.Core.List.{[]}
-use borrow.Author.Rules.{rules}
 use Rattle.meaning.specs.Model.{face}
 use Rattle.memory_layout.specs.Decode.{decode}
 use Rattle.memory_records.specs.declared.records.Face.{Face}

@@ -5,7 +5,6 @@ use mathlib.Core.Bool.{◌&&◌}
 use lib.Dec.{eqb}
 use lib.ListN.{length}
 use lib.Seq.{length-take-le}
-use borrow.Author.Rules.{rules}
 use Rattle.meaning.specs.Lists.{all, any}
 use Rattle.memory_layout.specs.Layout.{word}
 use Rattle.memory_layout.specs.Laws.{words_inside}

@@ -1,20 +1,11 @@
 -- `check_loop::all_geometry` meets its contract: a turn of the loop is one fin more. Assumes nothing.
-use native.Mathlib.Omega.{arith}
-use mathlib.Core.Path.{◌≡◌, refl}
-use Prim.Native.Nat.{◌≤◌, ◌<◌, ◌-◌}
-use lib.ListN.{length, take}
+use Rattle.std.proofs.Common.{take}
 use Rattle.meaning.specs.Lists.{joined}
 use Rattle.memory_layout.specs.Decode.{decode}
-use Rattle.check_reasons.specs.Log.{Noted}
-use Rattle.check_reasons.specs.Laws.{noted-none, noted-turn, enough-turn}
 use Rattle.check_ends.specs.Ends.{ref_of}
 use Rattle.check_fin.specs.Fin.{fin_on}
-use Rattle.check_loop.specs.Laws.{each-done}
-use borrow.Author.Rules.{rules}
+use Rattle.check_reasons.specs.Log.{Noted}
 use Rattle.check_loop.proofs.all_geometry.Given as goal
 
-abbrev pub invariant-loop-k : goal.invariant-loop-k
-invariant-loop-k l = (l.k ≤ length l.fins) × (length l.nums ≡ length l.initial.nums) × Noted (joined (fin_on (decode l.room l.words l.reals) l.n (ref_of l.surface)) (take l.k l.fins)) l.initial.nums l.initial.tally l.nums l.tally
-
-abbrev pub decreases-loop-k : goal.decreases-loop-k
-decreases-loop-k l = length l.fins - l.k
+abbrev pub invariant-loop-id : goal.invariant-loop-id
+invariant-loop-id l = Noted (joined (fin_on (decode l.room l.words l.reals) l.n (ref_of l.surface)) (take l.id-index l.fins)) l.initial.nums l.initial.tally l.nums l.tally

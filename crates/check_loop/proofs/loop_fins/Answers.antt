@@ -1,6 +1,6 @@
 -- `check_loop::loop_fins` meets its contract: one step after the other. Assumes nothing.
 use mathlib.Core.Path.{sym}
-use borrow.Author.Tests.{ne_eqb, eq-eqb, not-true, not-false}
+use borrow.Author.Tests.{ne_eqb, eq-eqb}
 use Rattle.memory_layout.specs.Decode.{decode}
 use Rattle.check_reasons.specs.Laws.{enough-same, enough-first, enough-then, noted-same, noted-then}
 use Rattle.check_ends.specs.Steps.{enough-one, enough-two, noted-two}

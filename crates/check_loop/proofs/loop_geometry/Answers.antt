@@ -4,7 +4,6 @@ use Rattle.memory_layout.specs.Decode.{decode}
 use Rattle.memory_layout.specs.Laws.{lists_of}
 use Rattle.check_reasons.specs.Laws.{enough-same, noted-same}
 use Rattle.check_loop.specs.Laws.{geometry-told}
-use borrow.Author.Rules.{rules}
 use Rattle.check_loop.proofs.loop_geometry.Goals as goal
 
 pub face_at-face-requires : goal.face_at-face-requires

@@ -10,7 +10,6 @@ use Rattle.memory_layout.specs.Laws.{lists_of}
 use Rattle.walk_paths.specs.Laws.{laid-short, laid-front, sources-front, edge-path-short, edge-sources}
 use Rattle.check_reasons.specs.Laws.{enough-same, noted-same}
 use Rattle.check_manifold.specs.Laws.{walk-told}
-use borrow.Author.Rules.{rules}
 use Rattle.check_manifold.proofs.manifold_edges.Goals as goal
 
 pub edge_path-n-requires : goal.edge_path-n-requires

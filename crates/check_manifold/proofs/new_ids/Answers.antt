@@ -2,7 +2,6 @@
 use native.Mathlib.Omega.{arith}
 use Rattle.walk_visits.specs.Laws.{took-front, took-length}
 use Rattle.check_manifold.specs.Laws.{fresh-long}
-use borrow.Author.Rules.{rules}
 use Rattle.check_manifold.proofs.new_ids.Goals as goal
 
 pub bounds-path-p : goal.bounds-path-p

@@ -1,5 +1,4 @@
 -- `check_manifold::same_sense` meets its contract: by both cases. Assumes nothing.
-use borrow.Author.Rules.{rules}
 use Rattle.check_manifold.proofs.same_sense.Goals as goal
 
 pub returns-in-Positive-b : goal.returns-in-Positive-b

@@ -6,7 +6,6 @@ use Rattle.memory_layout.specs.Layout.{word_strides}
 use Rattle.memory_layout.specs.Decode.{decode}
 use Rattle.memory_layout.specs.Laws.{before-tables}
 use Rattle.check_manifold.specs.Laws.{alike-first-not, alike-second-not, alike-told}
-use borrow.Author.Rules.{rules}
 use Rattle.check_manifold.proofs.same_senses.Goals as goal
 
 pub bounds-words-5 : goal.bounds-words-5

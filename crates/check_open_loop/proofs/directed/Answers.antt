@@ -1,7 +1,6 @@
 -- `check_open_loop::directed` meets its contract: by the sense. Assumes nothing.
 use mathlib.Core.Path.{sym, ap}
 use Rattle.check_open_loop.specs.OpenLoop.{directed_refs}
-use borrow.Author.Rules.{rules}
 use Rattle.check_open_loop.proofs.directed.Goals as goal
 
 pub returns-in-Positive : goal.returns-in-Positive

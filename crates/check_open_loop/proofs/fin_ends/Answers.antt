@@ -3,7 +3,6 @@ use mathlib.Core.Path.{◌∙◌}
 use Rattle.memory_layout.specs.Decode.{decode}
 use Rattle.memory_layout.specs.Laws.{lists_of}
 use Rattle.check_open_loop.specs.Laws.{fin-slots, edge-slot, ends-told}
-use borrow.Author.Rules.{rules}
 use Rattle.check_open_loop.proofs.fin_ends.Goals as goal
 
 pub fin_at-fin-requires : goal.fin_at-fin-requires

@@ -1,6 +1,5 @@
 -- `check_open_loop::next_of` meets its contract: the last comes before the first. Assumes nothing.
 use Rattle.check_open_loop.specs.Laws.{next-follows, next-first}
-use borrow.Author.Rules.{rules}
 use Rattle.check_open_loop.proofs.next_of.Goals as goal
 
 pub returns-then-i-fins : goal.returns-then-i-fins

@@ -1,10 +1,8 @@
 -- `check_open_loop::open_between` meets its contract: by whether both fins can be read. Assumes nothing.
-use borrow.Author.Tests.{not-true, not-false}
 use mathlib.Core.Path.{sym, ◌∙◌}
 use Rattle.memory_layout.specs.Decode.{decode}
 use Rattle.memory_layout.specs.Laws.{lists_of}
 use Rattle.check_open_loop.specs.Laws.{open_told, open-not, open-next-not}
-use borrow.Author.Rules.{rules}
 use Rattle.check_open_loop.proofs.open_between.Goals as goal
 
 pub readable_fin-requires : goal.readable_fin-requires

@@ -7,13 +7,13 @@ use borrow.Author.Rules.{rules}
 use Rattle.check_points.proofs.sample_test.Goals as goal
 
 pub geometry_error-requires : goal.geometry_error-requires
-geometry_error-requires c = let s = c in let w = sample-refused s.args.curve s.args.surface s.args.tolerance s.args.e s.args.at _ c.eval_curve.ensures _ c.in-Refused.is in record { n_nonzero = (w.0, omega arith); enough = enough-same w.1 s.requires }
+geometry_error-requires c = let s = c in let w = sample-refused s.args.curve s.args.surface s.args.tolerance s.args.e s.args.at _ c.eval_curve.ensures _ _ c.in-Err.is c.number.ensures in record { n_nonzero = (w.0, omega arith); enough = enough-same w.1 s.requires }
 
 pub point_on_surface-requires : goal.point_on_surface-requires
-point_on_surface-requires c = let s = c in record { n_nonzero = search rules; enough = enough-same (sample-given s.args.curve s.args.surface s.args.tolerance s.args.e s.args.at _ c.eval_curve.ensures _ c.in-At.is) s.requires }
+point_on_surface-requires c = let s = c in record { n_nonzero = search rules; enough = enough-same (sample-given s.args.curve s.args.surface s.args.tolerance s.args.e s.args.at _ c.eval_curve.ensures _ c.in-Ok.is) s.requires }
 
-pub returns-in-Refused : goal.returns-in-Refused
-returns-in-Refused c = let s = c in let w = sample-refused s.args.curve s.args.surface s.args.tolerance s.args.e s.args.at _ c.eval_curve.ensures _ c.in-Refused.is in noted-same (sym w.1) c.geometry_error.ensures
+pub returns-in-Err : goal.returns-in-Err
+returns-in-Err c = let s = c in let w = sample-refused s.args.curve s.args.surface s.args.tolerance s.args.e s.args.at _ c.eval_curve.ensures _ _ c.in-Err.is c.number.ensures in noted-same (sym w.1) c.geometry_error.ensures
 
-pub returns-in-At : goal.returns-in-At
-returns-in-At c = let s = c in noted-same (sym (sample-given s.args.curve s.args.surface s.args.tolerance s.args.e s.args.at _ c.eval_curve.ensures _ c.in-At.is)) c.point_on_surface.ensures
+pub returns-in-Ok : goal.returns-in-Ok
+returns-in-Ok c = let s = c in noted-same (sym (sample-given s.args.curve s.args.surface s.args.tolerance s.args.e s.args.at _ c.eval_curve.ensures _ c.in-Ok.is)) c.point_on_surface.ensures

@@ -1,33 +1,18 @@
 -- `check_regions::all_faces` meets its contract: a turn of the loop is one face more. Assumes nothing.
-use native.Mathlib.Omega.{arith}
-use mathlib.Core.Path.{◌≡◌, refl}
-use Prim.Native.Nat.{◌≤◌, ◌<◌, ◌-◌}
-use lib.ListN.{length, take}
+use Rattle.std.proofs.Common.{arith}
 use Rattle.meaning.specs.Lists.{joined}
 use Rattle.meaning.specs.Faults.{face_findings}
 use Rattle.memory_layout.specs.Decode.{decode}
-use Rattle.check_reasons.specs.Log.{Noted}
-use Rattle.check_reasons.specs.Laws.{noted-none, noted-turn, enough-turn}
 use Rattle.check_loop.specs.Loop.{options}
-use Rattle.check_loop.specs.Laws.{each-done}
-use borrow.Author.Rules.{rules}
+use Rattle.check_reasons.specs.Laws.{noted-none, noted-turn, enough-turn}
 use Rattle.check_regions.proofs.all_faces.Goals as goal
 
-pub loop-k-init : goal.loop-k-init
+pub loop-f-init : goal.loop-f-init
 unfolding joined
-loop-k-init c = (omega arith, refl, noted-none _ _)
+loop-f-init c = noted-none _ _
 
 pub face-tally-requires : goal.face-tally-requires
-face-tally-requires c = let h : c.loop-k.k < length c.args.faces.now = omega arith in record { fit = c.requires.fit; n_bound = c.requires.n_bound; enough = enough-turn (face_findings (decode c.args.room.now c.args.words.now c.args.reals.now) (options c.args.geometry c.args.n) c.args.s) c.args.faces.now c.loop-k.k h c.requires.enough c.loop-k.invariant.2 }
+face-tally-requires c = record { fit = c.requires.fit; n_bound = c.requires.n_bound; enough = enough-turn (face_findings (decode c.args.room.now c.args.words.now c.args.reals.now) (options c.args.geometry c.args.n) c.args.s) c.args.faces.now c.loop-f.f-index (omega arith) c.requires.enough c.loop-f.invariant }
 
-pub loop-k-smaller : goal.loop-k-smaller
-loop-k-smaller c = omega arith
-
-pub loop-k-preserved : goal.loop-k-preserved
-loop-k-preserved c = let h : c.loop-k.k < length c.args.faces.now = omega arith in (omega arith, omega (arith, c.face-tally.ensures.long), noted-turn (face_findings (decode c.args.room.now c.args.words.now c.args.reals.now) (options c.args.geometry c.args.n) c.args.s) c.args.faces.now c.loop-k.k h c.loop-k.invariant.2 c.face-tally.ensures)
-
-pub shape_of-nums : goal.shape_of-nums
-shape_of-nums c = omega arith
-
-pub returns : goal.returns
-returns c = each-done (face_findings (decode c.args.room.now c.args.words.now c.args.reals.now) (options c.args.geometry c.args.n) c.args.s) c.args.faces.now c.loop-k.k (omega arith) c.loop-k.invariant.2
+pub loop-f-preserved : goal.loop-f-preserved
+loop-f-preserved c = noted-turn (face_findings (decode c.args.room.now c.args.words.now c.args.reals.now) (options c.args.geometry c.args.n) c.args.s) c.args.faces.now c.loop-f.f-index (omega arith) c.loop-f.invariant c.face-tally.ensures

@@ -1,20 +1,11 @@
 -- `check_regions::all_faces` meets its contract: a turn of the loop is one face more. Assumes nothing.
-use native.Mathlib.Omega.{arith}
-use mathlib.Core.Path.{◌≡◌, refl}
-use Prim.Native.Nat.{◌≤◌, ◌<◌, ◌-◌}
-use lib.ListN.{length, take}
+use Rattle.std.proofs.Common.{take}
 use Rattle.meaning.specs.Lists.{joined}
 use Rattle.meaning.specs.Faults.{face_findings}
 use Rattle.memory_layout.specs.Decode.{decode}
-use Rattle.check_reasons.specs.Log.{Noted}
-use Rattle.check_reasons.specs.Laws.{noted-none, noted-turn, enough-turn}
 use Rattle.check_loop.specs.Loop.{options}
-use Rattle.check_loop.specs.Laws.{each-done}
-use borrow.Author.Rules.{rules}
+use Rattle.check_reasons.specs.Log.{Noted}
 use Rattle.check_regions.proofs.all_faces.Given as goal
 
-abbrev pub invariant-loop-k : goal.invariant-loop-k
-invariant-loop-k l = (l.k ≤ length l.faces) × (length l.nums ≡ length l.initial.nums) × Noted (joined (face_findings (decode l.room l.words l.reals) (options l.geometry l.n) l.s) (take l.k l.faces)) l.initial.nums l.initial.tally l.nums l.tally
-
-abbrev pub decreases-loop-k : goal.decreases-loop-k
-decreases-loop-k l = length l.faces - l.k
+abbrev pub invariant-loop-f : goal.invariant-loop-f
+invariant-loop-f l = Noted (joined (face_findings (decode l.room l.words l.reals) (options l.geometry l.n) l.s) (take l.f-index l.faces)) l.initial.nums l.initial.tally l.nums l.tally

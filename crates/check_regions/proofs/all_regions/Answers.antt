@@ -1,33 +1,18 @@
 -- `check_regions::all_regions` meets its contract: a turn of the loop is one region more. Assumes nothing.
-use native.Mathlib.Omega.{arith}
-use mathlib.Core.Path.{◌≡◌, refl}
-use Prim.Native.Nat.{◌≤◌, ◌<◌, ◌-◌}
-use lib.ListN.{length, take}
+use Rattle.std.proofs.Common.{arith}
 use Rattle.meaning.specs.Lists.{joined}
 use Rattle.meaning.specs.Faults.{region_findings}
 use Rattle.memory_layout.specs.Decode.{decode}
-use Rattle.check_reasons.specs.Log.{Noted}
-use Rattle.check_reasons.specs.Laws.{noted-none, noted-turn, enough-turn}
 use Rattle.check_loop.specs.Loop.{options}
-use Rattle.check_loop.specs.Laws.{each-done}
-use borrow.Author.Rules.{rules}
+use Rattle.check_reasons.specs.Laws.{noted-none, noted-turn, enough-turn}
 use Rattle.check_regions.proofs.all_regions.Goals as goal
 
-pub loop-k-init : goal.loop-k-init
+pub loop-r-init : goal.loop-r-init
 unfolding joined
-loop-k-init c = (omega arith, refl, noted-none _ _)
+loop-r-init c = noted-none _ _
 
 pub region-tally-requires : goal.region-tally-requires
-region-tally-requires c = let h : c.loop-k.k < length c.args.regions.now = omega arith in record { fit = c.requires.fit; n_bound = c.requires.n_bound; enough = enough-turn (region_findings (decode c.args.room.now c.args.words.now c.args.reals.now) (options c.args.geometry c.args.n) c.args.b) c.args.regions.now c.loop-k.k h c.requires.enough c.loop-k.invariant.2 }
+region-tally-requires c = record { fit = c.requires.fit; n_bound = c.requires.n_bound; enough = enough-turn (region_findings (decode c.args.room.now c.args.words.now c.args.reals.now) (options c.args.geometry c.args.n) c.args.b) c.args.regions.now c.loop-r.r-index (omega arith) c.requires.enough c.loop-r.invariant }
 
-pub loop-k-smaller : goal.loop-k-smaller
-loop-k-smaller c = omega arith
-
-pub loop-k-preserved : goal.loop-k-preserved
-loop-k-preserved c = let h : c.loop-k.k < length c.args.regions.now = omega arith in (omega arith, omega (arith, c.region-tally.ensures.long), noted-turn (region_findings (decode c.args.room.now c.args.words.now c.args.reals.now) (options c.args.geometry c.args.n) c.args.b) c.args.regions.now c.loop-k.k h c.loop-k.invariant.2 c.region-tally.ensures)
-
-pub shape_of-nums : goal.shape_of-nums
-shape_of-nums c = omega arith
-
-pub returns : goal.returns
-returns c = each-done (region_findings (decode c.args.room.now c.args.words.now c.args.reals.now) (options c.args.geometry c.args.n) c.args.b) c.args.regions.now c.loop-k.k (omega arith) c.loop-k.invariant.2
+pub loop-r-preserved : goal.loop-r-preserved
+loop-r-preserved c = noted-turn (region_findings (decode c.args.room.now c.args.words.now c.args.reals.now) (options c.args.geometry c.args.n) c.args.b) c.args.regions.now c.loop-r.r-index (omega arith) c.loop-r.invariant c.region-tally.ensures

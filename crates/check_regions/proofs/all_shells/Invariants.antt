@@ -1,20 +1,11 @@
 -- `check_regions::all_shells` meets its contract: a turn of the loop is one shell more. Assumes nothing.
-use native.Mathlib.Omega.{arith}
-use mathlib.Core.Path.{◌≡◌, refl}
-use Prim.Native.Nat.{◌≤◌, ◌<◌, ◌-◌}
-use lib.ListN.{length, take}
+use Rattle.std.proofs.Common.{take}
 use Rattle.meaning.specs.Lists.{joined}
 use Rattle.meaning.specs.Faults.{shell_findings}
 use Rattle.memory_layout.specs.Decode.{decode}
-use Rattle.check_reasons.specs.Log.{Noted}
-use Rattle.check_reasons.specs.Laws.{noted-none, noted-turn, enough-turn}
 use Rattle.check_loop.specs.Loop.{options}
-use Rattle.check_loop.specs.Laws.{each-done}
-use borrow.Author.Rules.{rules}
+use Rattle.check_reasons.specs.Log.{Noted}
 use Rattle.check_regions.proofs.all_shells.Given as goal
 
-abbrev pub invariant-loop-k : goal.invariant-loop-k
-invariant-loop-k l = (l.k ≤ length l.shells) × (length l.nums ≡ length l.initial.nums) × Noted (joined (shell_findings (decode l.room l.words l.reals) (options l.geometry l.n) l.r) (take l.k l.shells)) l.initial.nums l.initial.tally l.nums l.tally
-
-abbrev pub decreases-loop-k : goal.decreases-loop-k
-decreases-loop-k l = length l.shells - l.k
+abbrev pub invariant-loop-s : goal.invariant-loop-s
+invariant-loop-s l = Noted (joined (shell_findings (decode l.room l.words l.reals) (options l.geometry l.n) l.r) (take l.s-index l.shells)) l.initial.nums l.initial.tally l.nums l.tally

@@ -17,14 +17,11 @@ course_sum-returns t c =
     by_entries _ _ _ _ _ _ _ c.if-levels-eq0.false c.if-courses-course.false _
     (c.entries_sum.ensures ∙ ap (λ (l : List ℕ). with_bodies c.args.refused.now c.args.plus.now c.args.minus.now c.args.before (bodies_in (within (courses_in c.args.courses.now) (c.args.levels - 1)) (map entry_of l))) c.entries.ensures)
 
-pub entries_sum-loop-k-init : goal.entries_sum-loop-k-init
-entries_sum-loop-k-init t c = record { in_range = omega arith; added = no-entry _ _ _ _ _ }
+pub entries_sum-loop-e-init : goal.entries_sum-loop-e-init
+entries_sum-loop-e-init t c = no-entry _ _ _ _ _
 
-pub entries_sum-loop-k-preserved : goal.entries_sum-loop-k-preserved
-entries_sum-loop-k-preserved t c = record {
-  in_range = omega arith;
-  added = entry-turn _ _ _ _ c.args.before c.loop-k.s _ c.args.l.now c.loop-k.k (omega arith) c.loop-k.invariant.added c.entry_sum-s.ensures;
-}
+pub entries_sum-loop-e-preserved : goal.entries_sum-loop-e-preserved
+entries_sum-loop-e-preserved t c = entry-turn _ _ _ _ c.args.before c.loop-e.s _ c.args.l.now c.loop-e.e-index (omega arith) c.loop-e.invariant c.entry_sum-s.ensures
 
 pub entry_sum-returns-then-e-lt-COURSE : goal.entry_sum-returns-then-e-lt-COURSE
 entry_sum-returns-then-e-lt-COURSE t c = entry-body _ _ _ _ _ _ _ c.if-e-lt-COURSE.true c.with_body.ensures

@@ -1,6 +1,5 @@
 -- `course_stones::listed` meets its contract. Assumes nothing.
-use Prim.Native.Nat.{◌≤◌, ◌-◌}
-use mathlib.Core.Path.{◌≡◌}
+use Rattle.std.specs.Prelude.{◌≡◌}
 use Rattle.meaning.specs.Lists.{member}
 use Rattle.memory_layout.specs.Decode.{list_at}
 use Rattle.course_table.specs.Table.{course_at}
@@ -8,7 +7,4 @@ use Rattle.course_stones.specs.Sums.{some_below}
 use Rattle.course_stones.proofs.listed.Given as goal
 
 abbrev pub invariant-loop-c : goal.invariant-loop-c
-invariant-loop-c l = (l.c ≤ l.n) × (l.found ≡ some_below (λ i. member l.body (list_at l.courses (course_at i))) l.c)
-
-abbrev pub decreases-loop-c : goal.decreases-loop-c
-decreases-loop-c l = l.n - l.c
+invariant-loop-c l = l.found ≡ some_below (λ i. member l.body (list_at l.courses (course_at i))) l.c

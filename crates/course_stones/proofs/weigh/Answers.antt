@@ -1,8 +1,6 @@
 -- `course_stones::weigh` meets its contract. Assumes nothing.
-use mathlib.Core.Path.{◌≡◌, ap}
-use lib.ListN.{length}
+use Rattle.std.proofs.Common.{◌≡◌, arith}
 use Rattle.course_stones.specs.Weighing.{none-weighed, one-weighed, zeros-still}
-use native.Mathlib.Omega.{arith}
 use Rattle.course_stones.proofs.weigh.Goals as goal
 
 pub loop-b-init : goal.loop-b-init
@@ -14,19 +12,10 @@ weigh_one-requires c =
     let h = s.requires.n_bound in
     record { b_bound = omega arith; faces_value = zeros-still _ _ c.loop-b.invariant.marks s.requires.faces_value }
 
-pub overflow_add-b : goal.overflow_add-b
-overflow_add-b c = omega arith
-
-pub loop-b-smaller : goal.loop-b-smaller
-loop-b-smaller c = omega arith
-
 pub loop-b-preserved : goal.loop-b-preserved
 loop-b-preserved c =
     let e = c.weigh_one.ensures in
     one-weighed _ _ _ _ _ _ _ _ _ _ _ _ _ _ _ c.loop-b.invariant (omega arith) _ c.listed.ensures _ _ _ _ e.faces e.numbers e.above e.below
-
-pub shape_of-faces : goal.shape_of-faces
-shape_of-faces c = ap length c.loop-b.invariant.marks
 
 pub returns : goal.returns
 returns c =

@@ -6,7 +6,6 @@ use Rattle.meaning.specs.Lists.{all}
 use Rattle.memory_layout.specs.Layout.{word}
 use Rattle.course_table.specs.Table.{course_at}
 use Rattle.course_table.specs.Laws.{course-long, course-short}
-use borrow.Author.Rules.{rules}
 use Rattle.course_table.proofs.course_ok.Goals as goal
 
 pub returns-then-courses-course_at-gt16 : goal.returns-then-courses-course_at-gt16

@@ -2,7 +2,6 @@
 use mathlib.Core.Path.{ap, ◌∙◌}
 use Rattle.memory_layout.specs.Decode.{list_at}
 use Rattle.course_table.specs.Laws.{course-held}
-use borrow.Author.Rules.{rules}
 use Rattle.course_table.proofs.entries.Goals as goal
 
 pub list_at-requires : goal.list_at-requires

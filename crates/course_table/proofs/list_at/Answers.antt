@@ -5,7 +5,6 @@ use native.Mathlib.Numerals.{add-one}
 use native.Mathlib.Omega.{arith}
 use Rattle.memory_layout.specs.Layout.{word}
 use Rattle.memory_layout.specs.Decode.{list_at}
-use borrow.Author.Rules.{rules}
 use Rattle.course_table.proofs.list_at.Goals as goal
 
 pub returns : goal.returns

@@ -1,7 +1,6 @@
 -- `course_table::readable` meets its contract. Assumes nothing.
 use Rattle.course_table.specs.Laws.{no_words, too_many, too-few-words, by_rows}
 use native.Mathlib.Omega.{arith}
-use borrow.Author.Rules.{rules}
 use Rattle.course_table.proofs.readable.Goals as goal
 
 pub returns-then-courses-eq0 : goal.returns-then-courses-eq0

@@ -18,16 +18,13 @@ course_found-returns t c room x =
     by_entries _ _ _ _ _ c.if-levels-eq0.false c.if-courses-course.false _
     (c.entries_found.ensures room x ∙ ap (λ (l : List ℕ). entries_found (decode room c.args.words.now x) c.args.office (courses_in c.args.courses.now) (c.args.levels - 1) (map entry_of l)) c.entries.ensures)
 
-pub entries_found-loop-k-init : goal.entries_found-loop-k-init
-entries_found-loop-k-init t c = record { in_range = omega arith; found = λ room x. none_found _ _ _ _ }
+pub entries_found-loop-e-init : goal.entries_found-loop-e-init
+entries_found-loop-e-init t c room x = none_found _ _ _ _
 
-pub entries_found-loop-k-preserved : goal.entries_found-loop-k-preserved
-entries_found-loop-k-preserved t c = record {
-  in_range = omega arith;
-  found =
-      λ room x. c.worse_of-worst.ensures
-      ∙ found_turn (decode room c.args.words.now x) _ _ _ c.args.l.now c.loop-k.k _ _ (omega arith) (c.loop-k.invariant.found room x) (c.entry_found.ensures room x);
-}
+pub entries_found-loop-e-preserved : goal.entries_found-loop-e-preserved
+entries_found-loop-e-preserved t c room x =
+    c.worse_of-worst.ensures
+    ∙ found_turn (decode room c.args.words.now x) _ _ _ c.args.l.now c.loop-e.e-index _ _ (omega arith) (c.loop-e.invariant room x) (c.entry_found.ensures room x)
 
 pub entry_found-returns-then-e-lt-COURSE : goal.entry_found-returns-then-e-lt-COURSE
 entry_found-returns-then-e-lt-COURSE t c room x = entry-body _ _ _ _ _ _ c.if-e-lt-COURSE.true (c.body_found.ensures room x)

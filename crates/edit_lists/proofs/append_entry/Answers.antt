@@ -8,7 +8,6 @@ use Rattle.memory_writes.specs.Kept.{refused-keeps}
 use Rattle.edit_lists.specs.Place.{with_list}
 use Rattle.edit_lists.specs.Answers.{list_start, list_words, append_number, append_entry_words}
 use Rattle.edit_lists.specs.Laws.{start-held, start-list, start_small, start-entries, start-room, append-open}
-use borrow.Author.Rules.{rules}
 use Rattle.edit_lists.proofs.append_entry.Goals as goal
 
 pub returns-then-n-ne0 : goal.returns-then-n-ne0

@@ -4,13 +4,12 @@ use mathlib.Core.Path.{◌≡◌, sym, ◌∙◌}
 use mathlib.Core.Bool.{true, false}
 use lib.Dec.{ltb}
 use lib.ListN.{length}
-use borrow.Author.Tests.{not-true, not-false, lt-ltb, le-ltb}
+use borrow.Author.Tests.{lt-ltb, le-ltb}
 use Rattle.memory_layout.specs.Layout.{word_strides, word}
 use Rattle.memory_layout.specs.Readable.{readable}
 use Rattle.memory_layout.specs.Entries.{list_tables, list_limits, list_of}
 use Rattle.memory_layout.specs.Laws.{before-tables, list-table, fit_of, lists_of}
 use Rattle.edit_lists.specs.Answers.{append_number}
-use borrow.Author.Rules.{rules}
 use Rattle.edit_lists.proofs.append_refusal.Goals as goal
 
 pub returns-then-not-readable : goal.returns-then-not-readable

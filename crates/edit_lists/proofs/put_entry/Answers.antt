@@ -9,7 +9,6 @@ use Rattle.memory_writes.specs.Kept.{refused-keeps}
 use Rattle.edit_lists.specs.Place.{with_list}
 use Rattle.edit_lists.specs.Answers.{list_start, list_words, put_entry_words}
 use Rattle.edit_lists.specs.Laws.{start-held, start-list, start_small, start-entries}
-use borrow.Author.Rules.{rules}
 use Rattle.edit_lists.proofs.put_entry.Goals as goal
 
 pub returns-then-n-ne0 : goal.returns-then-n-ne0

@@ -4,7 +4,6 @@ use Rattle.memory_layout.specs.Layout.{word_strides, word}
 use Rattle.memory_layout.specs.Entries.{list_tables}
 use Rattle.memory_layout.specs.Laws.{words-strides, stride-le, base-le, list-table, list-room}
 use Rattle.edit_lists.specs.Answers.{list_start}
-use borrow.Author.Rules.{rules}
 use Rattle.edit_lists.proofs.start.Goals as goal
 
 pub word_at-requires : goal.word_at-requires

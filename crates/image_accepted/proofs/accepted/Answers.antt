@@ -1,8 +1,6 @@
 -- `image_accepted::accepted` meets its contract: the version's record, then the rest. Assumes nothing.
 use mathlib.Core.Path.{◌≡◌, sym, ◌∙◌}
 use mathlib.Core.Bool.{true, false}
-use borrow.Author.Rules.{rules}
-use borrow.Author.Tests.{not-true, not-false}
 use Rattle.image_accepted.specs.Version.{version_good, accepted-parts, good-room}
 use Rattle.image_accepted.proofs.accepted.Goals as goal
 

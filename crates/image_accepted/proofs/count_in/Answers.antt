@@ -1,6 +1,5 @@
 -- `image_accepted::count_in` meets its contract. Assumes nothing.
 use mathlib.Core.Path.{◌∙◌}
-use borrow.Author.Rules.{rules}
 use Rattle.image_laws.specs.Sizes.{count_at}
 use Rattle.image_accepted.proofs.count_in.Goals as goal
 

@@ -1,17 +1,9 @@
 -- `image_accepted::counts_good` meets its contract. Assumes nothing.
-use Prim.Native.Nat.{◌≤◌, ◌-◌}
-use mathlib.Core.Path.{◌≡◌, ap, ◌∙◌}
-use native.Mathlib.Omega.{arith}
-use lib.Dec.{leb}
+use Rattle.std.specs.Prelude.{◌≡◌, leb}
 use Rattle.meaning.specs.Lists.{all_below}
-use Rattle.meaning_list_laws.specs.Tests.{all_below-none, all_below-turn}
 use Rattle.memory_layout.specs.Layout.{word, largest_tables}
 use Rattle.image_format.specs.Image.{count_in}
-use Rattle.image_accepted.specs.Whole.{counts_good}
 use Rattle.image_accepted.proofs.counts_good.Given as goal
 
 abbrev pub invariant-loop-k : goal.invariant-loop-k
-invariant-loop-k l = (l.k ≤ 10) × (l.ok ≡ all_below (λ j. leb (count_in l.bytes j) (word largest_tables j)) l.k)
-
-abbrev pub decreases-loop-k : goal.decreases-loop-k
-decreases-loop-k l = 10 - l.k
+invariant-loop-k l = l.ok ≡ all_below (λ j. leb (count_in l.bytes j) (word largest_tables j)) l.k

@@ -2,8 +2,6 @@
 use mathlib.Core.Path.{◌≡◌, sym, ◌∙◌}
 use mathlib.Core.Bool.{true, false}
 use native.Mathlib.Omega.{arith}
-use borrow.Author.Rules.{rules}
-use borrow.Author.Tests.{not-true, not-false}
 use Rattle.meaning_list_laws.specs.Tests.{and-false}
 use Rattle.image_laws.specs.Machines.{below_all}
 use Rattle.image_accepted.specs.Head.{head_good}

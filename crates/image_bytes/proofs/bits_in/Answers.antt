@@ -1,6 +1,5 @@
 -- `image_bytes::bits_in` meets its contract: eight bytes are two words. Assumes nothing.
 use native.Mathlib.Omega.{arith}
-use borrow.Author.Rules.{rules}
 use Rattle.image_bytes.specs.Laws.{number-eight}
 use Rattle.image_bytes.proofs.bits_in.Goals as goal
 

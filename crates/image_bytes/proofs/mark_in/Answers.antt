@@ -1,6 +1,5 @@
 -- `image_bytes::mark_in` meets its contract: two bytes are read as `number 2` unfolds. Assumes nothing.
 use native.Mathlib.Omega.{arith}
-use borrow.Author.Rules.{rules}
 use Rattle.image_bytes.specs.Laws.{number-two}
 use Rattle.image_bytes.proofs.mark_in.Goals as goal
 

@@ -1,7 +1,6 @@
 -- `image_bytes::put_bits` meets its contract: eight bytes are two words, one behind the other. Assumes nothing.
 use Prim.Native.Nat.{◌+◌, ◌/◌}
 use native.Mathlib.Omega.{arith}
-use borrow.Author.Rules.{rules}
 use mathlib.Core.Path.{ap, ◌∙◌}
 use Rattle.memory_writes.specs.Put.{over}
 use Rattle.image_format.specs.Bytes.{little}

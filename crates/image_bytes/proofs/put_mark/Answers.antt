@@ -1,6 +1,5 @@
 -- `image_bytes::put_mark` meets its contract: two stores. Assumes nothing.
 use native.Mathlib.Omega.{arith}
-use borrow.Author.Rules.{rules}
 use lib.ListN.{length-set}
 use Rattle.memory_writes.specs.Over.{two-stores}
 use Rattle.image_format.specs.Bytes.{little}

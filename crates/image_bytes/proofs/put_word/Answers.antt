@@ -1,7 +1,6 @@
 -- `image_bytes::put_word` meets its contract: a word is two marks, one behind the other. Assumes nothing.
 use Prim.Native.Nat.{◌+◌, ◌/◌}
 use native.Mathlib.Omega.{arith}
-use borrow.Author.Rules.{rules}
 use mathlib.Core.Path.{ap, ◌∙◌}
 use Rattle.memory_writes.specs.Put.{over}
 use Rattle.image_format.specs.Bytes.{little}

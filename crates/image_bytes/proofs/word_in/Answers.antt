@@ -1,7 +1,6 @@
 -- `image_bytes::word_in` meets its contract: four bytes are read as `number 4` unfolds. Assumes nothing.
 use native.Mathlib.Omega.{arith}
 use mathlib.Core.Path.{sym}
-use borrow.Author.Rules.{rules}
 use Rattle.image_bytes.specs.Laws.{number-four}
 use Rattle.image_bytes.proofs.word_in.Goals as goal
 

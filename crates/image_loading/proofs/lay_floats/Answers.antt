@@ -10,7 +10,6 @@ use Rattle.memory_layout.specs.Laws.{capacity-le, record-inside}
 use Rattle.memory_layout.proofs.Laws.{reals-length}
 use Rattle.memory_writes.specs.Put.{over, put_reals}
 use Rattle.memory_writes.specs.Over.{taken_back}
-use borrow.Author.Rules.{rules}
 use Rattle.image_loading.proofs.lay_floats.Goals as goal
 
 pub real_at-from-requires : goal.real_at-from-requires

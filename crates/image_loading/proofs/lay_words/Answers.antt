@@ -11,7 +11,6 @@ use Rattle.memory_writes.specs.Put.{over, put_words}
 use Rattle.memory_writes.specs.Over.{taken_back}
 use Rattle.image_format.specs.Fields.{fields_in}
 use Rattle.image_loading.specs.Laid.{record_laid}
-use borrow.Author.Rules.{rules}
 use Rattle.image_loading.proofs.lay_words.Goals as goal
 
 pub word_at-from-requires : goal.word_at-from-requires

@@ -14,7 +14,6 @@ use Rattle.image_format.specs.Bytes.{words_in, floats_in}
 use Rattle.image_format.specs.Fields.{fields_in}
 use Rattle.image_loading.specs.Steps.{tables_laid, table_floats_laid}
 use Rattle.image_loading.specs.Laws.{front_long, still-loadable, words-laid, reals-laid}
-use borrow.Author.Rules.{rules}
 use Rattle.image_loading.proofs.load.Goals as goal
 
 pub slice_bounds-get_words-end : goal.slice_bounds-get_words-end

@@ -4,7 +4,6 @@ use mathlib.Core.Path.{◌≡◌, refl, sym, ap, ap₂, ◌∙◌}
 use mathlib.Core.List.{List}
 use lib.ListN.{set, length-set}
 use native.Mathlib.Omega.{arith}
-use borrow.Author.Rules.{rules}
 use Rattle.memory_layout.specs.Laid.{version_tag}
 use Rattle.memory_writes.specs.Kept.{refused-keeps}
 use Rattle.memory_writes.specs.Over.{one_store}

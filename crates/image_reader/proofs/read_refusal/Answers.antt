@@ -2,8 +2,6 @@
 use mathlib.Core.Path.{◌≡◌, sym, ◌∙◌}
 use mathlib.Core.Bool.{true, false}
 use native.Mathlib.Omega.{arith}
-use borrow.Author.Rules.{rules}
-use borrow.Author.Tests.{not-true, not-false}
 use Rattle.memory_layout.specs.Readable.{lent_ok}
 use Rattle.image_format.specs.Image.{records_in, accepted}
 use Rattle.image_laws.specs.Machines.{below_all}

@@ -1,7 +1,6 @@
 -- `image_records::body_mark` meets its contract. Assumes nothing.
 use borrow.Author.Tests.{eq-eqb, ne_eqb}
 use Rattle.memory_layout.specs.Layout.{word}
-use borrow.Author.Rules.{rules}
 use Rattle.image_records.proofs.body_mark.Goals as goal
 
 pub returns-then-w-eq0 : goal.returns-then-w-eq0

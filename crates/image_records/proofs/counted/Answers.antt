@@ -3,7 +3,6 @@ use Prim.Native.Nat.{suc, ◌+◌, ◌-◌}
 use native.Mathlib.Omega.{arith}
 use mathlib.Core.Path.{◌≡◌}
 use Rattle.memory_layout.specs.Layout.{word}
-use borrow.Author.Rules.{rules}
 use Rattle.image_records.proofs.counted.Goals as goal
 
 pub returns : goal.returns

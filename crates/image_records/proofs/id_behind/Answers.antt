@@ -3,7 +3,6 @@ use native.Mathlib.Numerals.{add-one}
 use borrow.Author.Tests.{eq-eqb, ne_eqb}
 use Rattle.memory_layout.specs.Layout.{word}
 use Rattle.image_records.specs.Kept.{id_behind}
-use borrow.Author.Rules.{rules}
 use Rattle.image_records.proofs.id_behind.Goals as goal
 
 pub returns-then-w-at-eq0 : goal.returns-then-w-at-eq0

@@ -1,6 +1,5 @@
 -- `image_records::list_count` meets its contract. Assumes nothing.
 use mathlib.Core.Path.{refl}
-use borrow.Author.Rules.{rules}
 use Rattle.image_records.proofs.list_count.Goals as goal
 
 pub returns : goal.returns

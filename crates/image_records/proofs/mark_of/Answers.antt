@@ -5,7 +5,6 @@ use lib.ListN.{length}
 use borrow.Author.Tests.{ne_eqb}
 use Rattle.memory_layout.specs.Layout.{word, word_strides}
 use Rattle.image_records.specs.Kept.{office_here}
-use borrow.Author.Rules.{rules}
 use Rattle.image_records.proofs.mark_of.Goals as goal
 
 pub body_mark-requires : goal.body_mark-requires

@@ -2,7 +2,6 @@
 use native.Mathlib.Omega.{arith}
 use mathlib.Core.Path.{◌∙◌}
 use Rattle.image_records.specs.Laws.{numbered}
-use borrow.Author.Rules.{rules}
 use Rattle.image_records.proofs.place_of.Goals as goal
 
 pub overflow_add-k : goal.overflow_add-k

@@ -9,7 +9,6 @@ use Rattle.image_format.specs.Bytes.{words}
 use Rattle.image_laws.specs.Numbers.{length-words}
 use Rattle.image_records.specs.Kept.{three_ids, head_of}
 use Rattle.image_records.specs.Laws.{seven-there, head-length, head_three, head_plain}
-use borrow.Author.Rules.{rules}
 use Rattle.image_records.proofs.put_head.Goals as goal
 
 pub overflow_mul-end : goal.overflow_mul-end

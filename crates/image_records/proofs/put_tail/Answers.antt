@@ -8,9 +8,7 @@ use lib.ListN.{length, take, replicate}
 use Rattle.interval_arithmetic.specs.Ops.{zero_f}
 use Rattle.memory_writes.specs.Put.{over}
 use Rattle.image_format.specs.Bytes.{floats}
-use Rattle.image_records.specs.Kept.{unsaid}
 use Rattle.image_records.specs.Laws.{over-turn, tail-parts}
-use borrow.Author.Rules.{rules}
 use Rattle.image_records.proofs.put_tail.Goals as goal
 
 pub overflow_sub-said : goal.overflow_sub-said

@@ -2,7 +2,6 @@
 use native.Mathlib.Omega.{arith}
 use Rattle.image_records.specs.Kept.{record_length}
 use Rattle.image_records.specs.Laws.{seven-words, six-floats, record-small}
-use borrow.Author.Rules.{rules}
 use Rattle.image_records.proofs.record_length.Goals as goal
 
 pub overflow_mul-result : goal.overflow_mul-result

@@ -1,6 +1,5 @@
 -- `image_records::three_ids` meets its contract. Assumes nothing.
 use Rattle.image_records.specs.Kept.{three_ids}
-use borrow.Author.Rules.{rules}
 use Rattle.image_records.proofs.three_ids.Goals as goal
 
 pub returns : goal.returns

@@ -4,7 +4,6 @@ use borrow.Author.Tests.{eq-eqb, ne_eqb}
 use Rattle.memory_layout.specs.Layout.{word}
 use Rattle.image_records.specs.Kept.{tag_places, quiet_tags, unsaid}
 use Rattle.image_records.specs.Laws.{tag-there}
-use borrow.Author.Rules.{rules}
 use Rattle.image_records.proofs.unsaid.Goals as goal
 
 pub offset_bounds-w-k : goal.offset_bounds-w-k

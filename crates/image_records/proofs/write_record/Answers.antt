@@ -9,7 +9,6 @@ use Rattle.image_format.specs.Fields.{list_counts}
 use Rattle.image_records.specs.Kept.{head_of, tail_of, lists_of}
 use Rattle.image_laws.specs.Sizes.{all-floats}
 use Rattle.image_records.specs.Laws.{listed_of, parts-long, record-written}
-use borrow.Author.Rules.{rules}
 use Rattle.image_records.proofs.write_record.Goals as goal
 
 pub mark_of-requires : goal.mark_of-requires

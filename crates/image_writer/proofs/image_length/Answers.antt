@@ -1,14 +1,11 @@
 -- `image_writer::image_length` meets its contract: the first test that fails, or the length. Assumes nothing.
 use mathlib.Core.Path.{◌≡◌, sym, ap, ◌∙◌}
 use mathlib.Core.Bool.{true, false}
-use borrow.Author.Tests.{not-true, not-false}
 use Rattle.memory_layout.specs.Laws.{fit_of}
 use Rattle.memory_layout.specs.Readable.{readable}
-use Rattle.image_format.specs.Bytes.{words}
 use Rattle.image_writer.specs.declared.Length.TheVariants.{Is}
 use Rattle.image_writer.specs.Answers.{length_number, length_answer}
 use Rattle.image_writer.specs.Laws.{used-of, image-long}
-use borrow.Author.Rules.{rules}
 use Rattle.image_writer.proofs.image_length.Goals as goal
 
 pub returns-then-not-readable : goal.returns-then-not-readable

@@ -4,9 +4,7 @@ use mathlib.Core.Path.{◌∙◌}
 use Rattle.memory_layout.specs.Layout.{word_strides}
 use Rattle.memory_layout.specs.Laws.{before-tables}
 use Rattle.memory_layout.specs.TableRows.{rest}
-use Rattle.image_format.specs.Bytes.{words}
 use Rattle.image_writer.specs.Laws.{word_rows, table-length}
-use borrow.Author.Rules.{rules}
 use Rattle.image_writer.proofs.table_length.Goals as goal
 
 pub bounds-words-k : goal.bounds-words-k

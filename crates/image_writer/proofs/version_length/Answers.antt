@@ -1,7 +1,6 @@
 -- `image_writer::version_length` meets its contract. Assumes nothing.
 use mathlib.Core.Path.{sym, ap}
 use lib.ListN.{length}
-use borrow.Author.Rules.{rules}
 use Rattle.image_writer.specs.Laws.{first-bytes, second-long}
 use Rattle.image_writer.proofs.version_length.Goals as goal
 

@@ -2,7 +2,6 @@
 use Prim.Native.Nat.{◌+◌}
 use native.Mathlib.Omega.{arith}
 use mathlib.Core.Path.{ap₂}
-use borrow.Author.Rules.{rules}
 use Rattle.memory_layout.specs.Laws.{version-there}
 use Rattle.image_writer.specs.Rows.{image_length}
 use Rattle.image_writer.specs.Laws.{version-short, tables-length-small}

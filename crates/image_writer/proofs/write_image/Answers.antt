@@ -2,11 +2,9 @@
 use mathlib.Core.Path.{◌≡◌, sym, ap, ◌∙◌}
 use Rattle.meaning_list_laws.specs.Tests.{refused-answer}
 use Rattle.memory_writes.specs.Kept.{refused-keeps}
-use Rattle.image_format.specs.Bytes.{words}
 use Rattle.image_writer.specs.declared.Length.TheVariants.{Is, Refused}
 use Rattle.image_writer.specs.Answers.{write_number, write_answer, written_bytes}
 use Rattle.image_writer.specs.Laws.{write-open}
-use borrow.Author.Rules.{rules}
 use Rattle.image_writer.proofs.write_image.Goals as goal
 
 pub returns-then-n-ne0 : goal.returns-then-n-ne0

@@ -7,7 +7,6 @@ use lib.Seq.{length-take-le}
 use Rattle.memory_writes.specs.Put.{over}
 use Rattle.image_format.specs.Bytes.{words, floats}
 use Rattle.image_writer.specs.Laws.{precision-written}
-use borrow.Author.Rules.{rules}
 use Rattle.image_writer.proofs.write_precision.Goals as goal
 
 pub slice_bounds-put_words-end : goal.slice_bounds-put_words-end

@@ -3,15 +3,13 @@ use mathlib.Core.Path.{◌≡◌, sym, ◌∙◌}
 use mathlib.Core.Bool.{true, false}
 use lib.Dec.{leb}
 use lib.ListN.{length}
-use borrow.Author.Tests.{not-true, not-false, lt-leb, le-leb}
+use borrow.Author.Tests.{lt-leb, le-leb}
 use Rattle.memory_layout.specs.Laws.{fit_of}
 use Rattle.memory_layout.specs.Readable.{readable}
-use Rattle.image_format.specs.Bytes.{words}
 use Rattle.image_format.specs.Image.{image_of}
 use Rattle.memory_layout.specs.Decode.{decode}
 use Rattle.image_writer.specs.Answers.{write_number}
 use Rattle.image_writer.specs.Laws.{used-of, image-long}
-use borrow.Author.Rules.{rules}
 use Rattle.image_writer.proofs.write_refusal.Goals as goal
 
 pub returns-then-not-readable : goal.returns-then-not-readable

@@ -1,27 +1,21 @@
 -- `image_writer::write_rows` meets its contract: a turn of the loop is one more record. Assumes nothing.
-use Prim.Native.Nat.{ℕ, ◌+◌, ◌-◌, ◌≤◌}
-use native.Mathlib.Omega.{arith}
-use mathlib.Core.Path.{◌≡◌, refl, sym, ap, ap₂, ◌∙◌}
-use mathlib.Core.List.{List}
-use lib.Ieee.{Float}
-use lib.ListN.{length, length-append}
+use Rattle.std.specs.Prelude.{ℕ, ◌+◌, ◌≡◌, List, length, Float}
+use Rattle.std.proofs.Common.{arith, sym, ap, ap₂, ◌∙◌, length-append}
 use Rattle.memory_layout.specs.TableRows.{row, row_inside}
 use Rattle.memory_writes.specs.Put.{over}
-use Rattle.memory_writes.specs.Over.{length_over, over_none}
-use Rattle.image_format.specs.Bytes.{words}
+use Rattle.memory_writes.specs.Over.{over_none}
 use Rattle.image_format.specs.Fields.{record_image}
 use Rattle.image_records.specs.Kept.{fields_of}
 use Rattle.image_records.specs.Laws.{over-turn}
 use Rattle.image_writer.specs.Rows.{row_words, row_reals, rows_image}
 use Rattle.image_writer.specs.Laws.{rows_none, rows-turn, rows-within}
-use borrow.Author.Rules.{rules}
 use Rattle.image_writer.proofs.write_rows.Goals as goal
 
 pub loop-i-init : goal.loop-i-init
 loop-i-init c =
     let s = c in
     let e = rows_none s.args.k s.args.w.now s.args.x.now in
-    (omega arith, rw e (omega arith), refl, sym (ap (λ (a : List ℕ). over s.args.at a s.args.bytes.now) e ∙ over_none s.args.at s.args.bytes.now))
+    (rw e (omega arith), sym (ap (λ (a : List ℕ). over s.args.at a s.args.bytes.now) e ∙ over_none s.args.at s.args.bytes.now))
 
 pub words_row-requires : goal.words_row-requires
 words_row-requires c =
@@ -51,11 +45,6 @@ write_record-to-requires c =
     let z = c.loop-i.invariant in
     record { kept = rw (e, f) (s.requires.rows.kept i (omega arith)); x_in_bounds = omega (arith, s.requires.n_in_bounds) }
 
-pub overflow_add-i : goal.overflow_add-i
-overflow_add-i c =
-    let s = c in
-    omega (arith, s.requires.rows.rows.few)
-
 pub loop-i-preserved : goal.loop-i-preserved
 loop-i-preserved c =
     let s = c in
@@ -80,15 +69,12 @@ loop-i-preserved c =
     let u : c.write_record-to.new.bytes ≡ over at (rows_image k w x (i + 1)) s.args.bytes.now =
     c.write_record-to.ensures.written
     ∙ ap (λ (y : List ℕ). over c.loop-i.to y c.loop-i.bytes) m
-    ∙ over-turn at c.loop-i.to a b c.loop-i.bytes s.args.bytes.now z.1 z.3 (omega arith)
+    ∙ over-turn at c.loop-i.to a b c.loop-i.bytes s.args.bytes.now z.0 z.1 (omega arith)
     ∙ ap (λ (y : List ℕ). over at y s.args.bytes.now) (sym t) in
-    (omega arith, omega arith, ap length u ∙ length_over at (rows_image k w x (i + 1)) s.args.bytes.now (omega arith), u)
-
-pub shape_of-bytes : goal.shape_of-bytes
-shape_of-bytes c = c.loop-i.invariant.2
+    (omega arith, u)
 
 pub returns : goal.returns
 returns c =
     let s = c in
     let e : c.loop-i.i ≡ s.args.n = omega arith in
-    let z = c.loop-i.invariant in record { end = z.1 ∙ ap (λ (i : ℕ). s.args.at + length (rows_image s.args.k s.args.w.now s.args.x.now i)) e; written = z.3 ∙ ap (λ (i : ℕ). over s.args.at (rows_image s.args.k s.args.w.now s.args.x.now i) s.args.bytes.now) e }
+    let z = c.loop-i.invariant in record { end = z.0 ∙ ap (λ (i : ℕ). s.args.at + length (rows_image s.args.k s.args.w.now s.args.x.now i)) e; written = z.1 ∙ ap (λ (i : ℕ). over s.args.at (rows_image s.args.k s.args.w.now s.args.x.now i) s.args.bytes.now) e }

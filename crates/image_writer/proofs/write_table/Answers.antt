@@ -9,10 +9,8 @@ use Rattle.memory_layout.specs.Layout.{word, word_at, real_at}
 use Rattle.memory_layout.specs.TableRows.{rest}
 use Rattle.memory_layout.proofs.TableRows.{table-begins}
 use Rattle.memory_writes.specs.Put.{over}
-use Rattle.image_format.specs.Bytes.{words}
 use Rattle.image_writer.specs.Rows.{rows_image}
 use Rattle.image_writer.specs.Laws.{rows_of, table-image, ten-words}
-use borrow.Author.Rules.{rules}
 use Rattle.image_writer.proofs.write_table.Goals as goal
 
 pub bounds-words-k : goal.bounds-words-k

@@ -4,7 +4,6 @@ use native.Mathlib.Omega.{arith}
 use mathlib.Core.Path.{sym, ap, ◌∙◌}
 use mathlib.Core.List.{List, [], ◌∷◌}
 use lib.ListN.{length}
-use borrow.Author.Rules.{rules}
 use Rattle.memory_writes.specs.Put.{over}
 use Rattle.memory_writes.specs.Over.{over_none}
 use Rattle.image_format.specs.Bytes.{words}

@@ -5,10 +5,8 @@ use mathlib.Core.Path.{sym, ap, ◌∙◌}
 use lib.ListN.{length}
 use Rattle.memory_layout.specs.Laws.{precision-there, version-there}
 use Rattle.memory_writes.specs.Put.{over}
-use Rattle.image_format.specs.Bytes.{words}
 use Rattle.image_writer.specs.Rows.{version_bytes, precision_bytes, tables_of}
 use Rattle.image_writer.specs.Laws.{ten-words, whole-written, whole_long}
-use borrow.Author.Rules.{rules}
 use Rattle.image_writer.proofs.write_whole.Goals as goal
 
 pub write_version-at-requires : goal.write_version-at-requires

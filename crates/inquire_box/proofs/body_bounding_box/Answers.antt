@@ -5,7 +5,6 @@ use Rattle.walk_answers.specs.Calls.{reach}
 use Rattle.walk_answers.specs.Laws.{zeros-on, zeros-same}
 use Rattle.inquire_polyhedral.specs.Laws.{accepted-polyhedral, polyhedral-edged}
 use Rattle.inquire_box.specs.Laws.{box-refused, box-answered}
-use borrow.Author.Rules.{rules}
 use Rattle.inquire_box.proofs.body_bounding_box.Goals as goal
 
 pub returns-then-n-ne0 : goal.returns-then-n-ne0

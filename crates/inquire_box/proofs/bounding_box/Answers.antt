@@ -8,7 +8,6 @@ use Rattle.memory_layout.specs.Laws.{lists_of}
 use Rattle.walk_paths.specs.Laws.{laid-short, laid-front, sources-front, vertex-path-short, vertex-sources}
 use Rattle.walk_answers.specs.Laws.{marked-zeros, vertex-list}
 use Rattle.inquire_box.specs.Walked.{walk_box}
-use borrow.Author.Rules.{rules}
 use Rattle.inquire_box.proofs.bounding_box.Goals as goal
 
 pub vertex_path-n-requires : goal.vertex_path-n-requires

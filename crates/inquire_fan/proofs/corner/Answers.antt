@@ -5,7 +5,6 @@ use Rattle.memory_layout.specs.Decode.{decode}
 use Rattle.inquire_fin_starts.specs.Starts.{start_point}
 use Rattle.inquire_fin_starts.specs.Laws.{rim-whole, rim-start}
 use Rattle.inquire_fan.specs.Laws.{backwards}
-use borrow.Author.Rules.{rules}
 use Rattle.inquire_fan.proofs.corner.Goals as goal
 
 pub overflow_cast-fins : goal.overflow_cast-fins

@@ -3,7 +3,6 @@ use mathlib.Core.Path.{ap, ap₂, ◌∙◌}
 use Rattle.float_vectors.specs.Space.{dot_v, cross_v}
 use Rattle.meaning.specs.Floats.{to_vec}
 use Rattle.inquire_fan.specs.Fan.{wedge}
-use borrow.Author.Rules.{rules}
 use Rattle.inquire_fan.proofs.wedge.Goals as goal
 
 pub returns : goal.returns

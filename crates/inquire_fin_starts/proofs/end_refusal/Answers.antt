@@ -1,6 +1,5 @@
 -- `inquire_fin_starts::end_refusal` meets its contract. Assumes nothing.
 use Rattle.inquire_fin_starts.specs.Starts.{end_number}
-use borrow.Author.Rules.{rules}
 use Rattle.inquire_fin_starts.proofs.end_refusal.Goals as goal
 
 pub returns : goal.returns

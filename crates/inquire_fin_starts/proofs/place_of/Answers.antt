@@ -6,7 +6,6 @@ use Rattle.memory_layout.specs.Layout.{word}
 use Rattle.memory_layout.specs.Laws.{words_inside}
 use Rattle.memory_layout.proofs.Laws.{words-length}
 use Rattle.inquire_fin_starts.specs.Starts.{start_place}
-use borrow.Author.Rules.{rules}
 use Rattle.inquire_fin_starts.proofs.place_of.Goals as goal
 
 pub words_of-fin-requires : goal.words_of-fin-requires

@@ -6,7 +6,6 @@ use Rattle.memory_layout.specs.Laws.{words_inside}
 use Rattle.memory_layout.proofs.Laws.{words-length}
 use Rattle.walk_sources.specs.Sources.{fin_edge}
 use Rattle.inquire_fin_starts.specs.Starts.{start_id}
-use borrow.Author.Rules.{rules}
 use Rattle.inquire_fin_starts.proofs.start_id.Goals as goal
 
 pub bounds-edge-at : goal.bounds-edge-at

@@ -2,7 +2,6 @@
 use Rattle.memory_layout.specs.Laws.{lists_of}
 use Rattle.memory_records.specs.Seen.{seen_vertex}
 use Rattle.inquire_fin_starts.specs.Laws.{start-there, start_is}
-use borrow.Author.Rules.{rules}
 use Rattle.inquire_fin_starts.proofs.start_point.Goals as goal
 
 pub start_id-requires : goal.start_id-requires

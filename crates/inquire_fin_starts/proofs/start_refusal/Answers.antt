@@ -7,7 +7,6 @@ use Rattle.memory_layout.proofs.Laws.{words-length}
 use Rattle.walk_sources.specs.Laws.{used-words}
 use Rattle.walk_sources.specs.Sources.{fin_edge}
 use Rattle.inquire_fin_starts.specs.Starts.{start_number}
-use borrow.Author.Rules.{rules}
 use Rattle.inquire_fin_starts.proofs.start_refusal.Goals as goal
 
 pub bounds-words-7 : goal.bounds-words-7

@@ -1,12 +1,10 @@
 -- `inquire_polyhedral::polyhedral_refusal` meets its contract. Assumes nothing.
 use mathlib.Core.Path.{sym, ◌∙◌}
-use borrow.Author.Tests.{not-true, not-false}
 use Rattle.meaning.specs.Inquire.{require_polyhedral}
 use Rattle.memory_layout.specs.Decode.{decode}
 use Rattle.memory_layout.specs.Readable.{readable}
 use Rattle.memory_layout.specs.Laws.{fit_of}
 use Rattle.walk_answers.specs.Laws.{refused-9, refused-8, refused-not}
-use borrow.Author.Rules.{rules}
 use Rattle.inquire_polyhedral.proofs.polyhedral_refusal.Goals as goal
 
 pub returns-then-not-readable : goal.returns-then-not-readable

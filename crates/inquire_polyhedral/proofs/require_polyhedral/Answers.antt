@@ -2,12 +2,10 @@
 use native.Mathlib.Omega.{arith}
 use mathlib.Core.Path.{◌≡◌, sym, ◌∙◌}
 use mathlib.Core.Bool.{true}
-use borrow.Author.Tests.{not-true, not-false}
 use Rattle.memory_layout.specs.Laws.{lists_of}
 use Rattle.walk_paths.specs.Paths.{body_followed}
 use Rattle.walk_paths.specs.Laws.{shelled-of}
 use Rattle.inquire_polyhedral.specs.Laws.{body-missing, body-tested}
-use borrow.Author.Rules.{rules}
 use Rattle.inquire_polyhedral.proofs.require_polyhedral.Goals as goal
 
 pub body_followed-requires : goal.body_followed-requires

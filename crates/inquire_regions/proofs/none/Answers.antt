@@ -1,6 +1,5 @@
 -- `inquire_regions::none` meets its contract. Assumes nothing.
 use lib.Ieee.{of_bits}
-use borrow.Author.Rules.{rules}
 use Rattle.inquire_regions.specs.Laws.{tally-none}
 use Rattle.inquire_regions.proofs.none.Goals as goal
 

@@ -9,7 +9,6 @@ use Rattle.memory_layout.specs.Layout.{word}
 use Rattle.memory_layout.specs.Laws.{words_inside}
 use Rattle.memory_layout.proofs.Laws.{words-length}
 use Rattle.inquire_regions.specs.Regions.{solid_shells}
-use borrow.Author.Rules.{rules}
 use Rattle.inquire_regions.proofs.solid_shells.Goals as goal
 
 pub words_of-w-requires : goal.words_of-w-requires

@@ -1,12 +1,8 @@
 -- `inquire_regions::with_shell` meets its contract: a turn of the loop is one face more. Assumes nothing.
-use Prim.Native.Nat.{◌≤◌, ◌-◌}
-use native.Mathlib.Omega.{arith}
-use mathlib.Core.Path.{◌≡◌, ap, ◌∙◌}
-use mathlib.Core.List.{List, ◌++◌, map}
-use lib.ListN.{length, take}
+use Rattle.std.specs.Prelude.{◌++◌, map}
+use Rattle.std.proofs.Common.{take, ap, ◌∙◌, arith}
 use lib.Seq.{take_all}
 use Rattle.meaning.specs.Lists.{all}
-use Rattle.meaning.specs.Inquire.{Side}
 use Rattle.walk_marks.specs.Laws.{all-nth}
 use Rattle.memory_layout.specs.Decode.{decode}
 use Rattle.memory_layout.specs.Laws.{lists_of}
@@ -20,37 +16,23 @@ list-faces-requires c =
     let s = c in
     record { lists = lists_of s.args.room.now s.args.words.now s.args.reals.now s.requires.fit; j_bound = (omega arith, s.requires.shell_bound) }
 
-pub loop-k-init : goal.loop-k-init
-loop-k-init c =
-    let s = c in
-    (omega arith, λ l e. faces-none (decode s.args.room.now s.args.words.now s.args.reals.now) l s.args.whole _ e)
-
-pub offset_bounds-faces-k : goal.offset_bounds-faces-k
-offset_bounds-faces-k c = omega arith
-
-pub bounds-faces-k : goal.bounds-faces-k
-bounds-faces-k c = omega arith
+pub loop-face-init : goal.loop-face-init
+loop-face-init c = λ l e. faces-none (decode c.args.room.now c.args.words.now c.args.reals.now) l c.args.whole _ e
 
 pub with_side-t-requires : goal.with_side-t-requires
 unfolding faces_whole
 with_side-t-requires c =
     let s = c in
-    record { fit = s.requires.fit; face_value = all-nth (face_whole s.args.room.now s.args.words.now) c.list-faces.result.now c.loop-k.k (ap (all (face_whole s.args.room.now s.args.words.now)) c.list-faces.ensures ∙ s.requires.shell_value) (omega arith) }
+    record { fit = s.requires.fit; face_value = all-nth (face_whole s.args.room.now s.args.words.now) c.list-faces.result.now c.loop-face.face-index (ap (all (face_whole s.args.room.now s.args.words.now)) c.list-faces.ensures ∙ s.requires.shell_value) (omega arith) }
 
-pub overflow_add-k : goal.overflow_add-k
-overflow_add-k c = omega arith
-
-pub loop-k-smaller : goal.loop-k-smaller
-loop-k-smaller c = omega arith
-
-pub loop-k-preserved : goal.loop-k-preserved
-loop-k-preserved c =
+pub loop-face-preserved : goal.loop-face-preserved
+loop-face-preserved c =
     let s = c in
-    let k = c.loop-k.k in
+    let k = c.loop-face.face-index in
     let faces = c.list-faces.result.now in
-    (omega arith, λ l e. c.with_side-t.ensures (l ++ map (λ f. record { shell = s.args.shell; face = f }) (take k faces)) (c.loop-k.invariant.1 l e) ∙ ap (tally_of s.args.whole (decode s.args.room.now s.args.words.now s.args.reals.now)) (faces-turn (decode s.args.room.now s.args.words.now s.args.reals.now) l s.args.shell faces k (omega arith)))
+    λ l e. c.with_side-t.ensures (l ++ map (λ f. record { shell = s.args.shell; face = f }) (take k faces)) (c.loop-face.invariant l e) ∙ ap (tally_of s.args.whole (decode s.args.room.now s.args.words.now s.args.reals.now)) (faces-turn (decode s.args.room.now s.args.words.now s.args.reals.now) l s.args.shell faces k (omega arith))
 
 pub returns : goal.returns
 returns c =
     let s = c in
-    λ l e. c.loop-k.invariant.1 l e ∙ ap (λ t. tally_of s.args.whole (decode s.args.room.now s.args.words.now s.args.reals.now) (l ++ map (λ f. record { shell = s.args.shell; face = f }) t)) (take_all c.loop-k.k c.list-faces.result.now (omega arith) ∙ c.list-faces.ensures) ∙ ap (λ t. tally_of s.args.whole (decode s.args.room.now s.args.words.now s.args.reals.now) (l ++ t)) (sides-list s.args.room.now s.args.words.now s.args.reals.now s.args.shell)
+    λ l e. c.loop-face.invariant l e ∙ ap (λ t. tally_of s.args.whole (decode s.args.room.now s.args.words.now s.args.reals.now) (l ++ map (λ f. record { shell = s.args.shell; face = f }) t)) (take_all c.loop-face.face-index c.list-faces.result.now (omega arith) ∙ c.list-faces.ensures) ∙ ap (λ t. tally_of s.args.whole (decode s.args.room.now s.args.words.now s.args.reals.now) (l ++ t)) (sides-list s.args.room.now s.args.words.now s.args.reals.now s.args.shell)

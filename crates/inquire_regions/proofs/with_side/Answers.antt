@@ -8,7 +8,6 @@ use Rattle.memory_layout.specs.Laws.{lists_of}
 use Rattle.inquire_sides.specs.Sides.{side_number}
 use Rattle.inquire_sides.specs.Laws.{side-number}
 use Rattle.inquire_regions.specs.Laws.{tally-refused, tally-weighed, tally-more, side-passed}
-use borrow.Author.Rules.{rules}
 use Rattle.inquire_regions.proofs.with_side.Goals as goal
 
 pub side_refusal-requires : goal.side_refusal-requires

@@ -3,7 +3,6 @@ use native.Mathlib.Omega.{arith}
 use mathlib.Core.Path.{ap, ◌∙◌}
 use mathlib.Core.List.{map}
 use lib.ListN.{length-map}
-use borrow.Author.Rules.{rules}
 use Rattle.meaning_sheets.specs.Sheets.{corner, grid_point}
 use Rattle.memory_layout.specs.Decode.{decode}
 use Rattle.inquire_fin_starts.specs.Starts.{start_point}

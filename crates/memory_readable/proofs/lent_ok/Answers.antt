@@ -1,14 +1,13 @@
 -- `memory_readable::lent_ok` meets its contract: each way out is the first test that fails. Assumes nothing.
 use mathlib.Core.Path.{◌≡◌, sym, ◌∙◌}
 use mathlib.Core.Bool.{true, false, and-true}
-use borrow.Author.Tests.{not-true, not-false, lt-leb, le-leb}
+use borrow.Author.Tests.{lt-leb, le-leb}
 use lib.Dec.{leb}
 use lib.ListN.{length}
 use Rattle.meaning.specs.Lists.{every}
-use Rattle.memory_layout.specs.Layout.{words_needed, reals_needed}
+use Rattle.memory_layout.specs.Layout.{words_needed}
 use Rattle.memory_layout.specs.Readable.{room_ok, lent_ok}
 use Rattle.memory_layout.specs.Laws.{small_of}
-use borrow.Author.Rules.{rules}
 use Rattle.memory_readable.proofs.lent_ok.Goals as goal
 
 pub returns-then-not-room_ok : goal.returns-then-not-room_ok

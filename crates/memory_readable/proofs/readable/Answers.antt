@@ -2,11 +2,9 @@
 use mathlib.Core.Path.{◌≡◌, sym, ◌∙◌}
 use mathlib.Core.Bool.{true, false}
 use native.Mathlib.Omega.{arith}
-use borrow.Author.Tests.{not-true, not-false}
 use Rattle.memory_layout.specs.Layout.{real_strides}
 use Rattle.memory_layout.specs.Readable.{sized_ok, readable}
 use Rattle.memory_layout.specs.Laws.{sized_of, before-tables, version-there}
-use borrow.Author.Rules.{rules}
 use Rattle.memory_readable.proofs.readable.Goals as goal
 
 pub returns-then-not-sized : goal.returns-then-not-sized

@@ -1,13 +1,10 @@
 -- `memory_readable::sized` meets its contract: each way out is the first test that fails. Assumes nothing.
-use mathlib.Core.Path.{◌≡◌, sym, ◌∙◌}
-use mathlib.Core.Bool.{true, false}
+use mathlib.Core.Path.{sym, ◌∙◌}
 use native.Mathlib.Omega.{arith}
-use borrow.Author.Tests.{not-true, not-false}
 use Rattle.meaning_list_laws.specs.Tests.{shut, opened}
 use Rattle.memory_layout.specs.Layout.{word_strides}
 use Rattle.memory_layout.specs.Readable.{lent_ok, counts_ok, sized_ok}
 use Rattle.memory_layout.specs.Laws.{lent_of, before-tables}
-use borrow.Author.Rules.{rules}
 use Rattle.memory_readable.proofs.sized.Goals as goal
 
 pub returns-then-not-lent_ok : goal.returns-then-not-lent_ok

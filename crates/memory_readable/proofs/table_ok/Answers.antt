@@ -5,7 +5,6 @@ use Rattle.memory_layout.specs.Layout.{word_strides}
 use Rattle.memory_layout.specs.Laws.{before-tables}
 use Rattle.memory_layout.specs.TableRows.{rest, rows-table}
 use Rattle.memory_layout.proofs.TableRows.{table-rows, table-begins}
-use borrow.Author.Rules.{rules}
 use Rattle.memory_readable.proofs.table_ok.Goals as goal
 
 pub bounds-words-k : goal.bounds-words-k

@@ -1,29 +1,22 @@
 -- `memory_readable::tables_ok` meets its contract: a turn of the loop is one more table. Assumes nothing.
-use Prim.Native.Nat.{◌≤◌, ◌-◌}
-use mathlib.Core.Path.{◌≡◌, ap, ◌∙◌}
-use native.Mathlib.Omega.{arith}
+use Rattle.std.specs.Prelude.{◌≡◌}
+use Rattle.std.proofs.Common.{ap, ◌∙◌, arith}
 use Rattle.meaning.specs.Lists.{all_below}
 use Rattle.meaning_list_laws.specs.Tests.{all_below-none, all_below-turn}
-use Rattle.memory_layout.specs.Readable.{table_ok, tables_ok}
+use Rattle.memory_layout.specs.Readable.{tables_ok}
 use Rattle.memory_readable.proofs.tables_ok.Goals as goal
 
 pub loop-k-init : goal.loop-k-init
-loop-k-init c = (omega arith, rw all_below-none)
+loop-k-init c = rw all_below-none
 
 pub table_ok-ok-requires : goal.table_ok-ok-requires
 table_ok-ok-requires c = record { sized = c.requires; k_bound = omega arith }
 
-pub overflow_add-k : goal.overflow_add-k
-overflow_add-k c = omega arith
-
-pub loop-k-smaller : goal.loop-k-smaller
-loop-k-smaller c = omega arith
-
 pub loop-k-preserved : goal.loop-k-preserved
-loop-k-preserved c = (omega arith, all_below-turn _ _ _ _ c.loop-k.invariant.1 c.table_ok-ok.ensures)
+loop-k-preserved c = all_below-turn _ _ _ _ c.loop-k.invariant c.table_ok-ok.ensures
 
 pub returns : goal.returns
 unfolding tables_ok
 returns c =
     let done : c.loop-k.k ≡ 10 = omega arith in
-    c.loop-k.invariant.1 ∙ ap (all_below _) done
+    c.loop-k.invariant ∙ ap (all_below _) done

@@ -1,9 +1,7 @@
 -- `memory_readable::unknown_tag` meets its contract. Assumes nothing.
 use mathlib.Core.Path.{◌≡◌, sym, ◌∙◌}
 use mathlib.Core.Bool.{true, false}
-use borrow.Author.Tests.{not-true, not-false}
 use Rattle.memory_layout.specs.Readable.{readable, tag_number}
-use borrow.Author.Rules.{rules}
 use Rattle.memory_readable.proofs.unknown_tag.Goals as goal
 
 pub returns-then-not-readable : goal.returns-then-not-readable

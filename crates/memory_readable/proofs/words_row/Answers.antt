@@ -3,7 +3,6 @@ use Prim.Native.Nat.{◌+◌, ◌*◌, ◌-◌}
 use mathlib.Core.Path.{◌≡◌}
 use native.Mathlib.Omega.{arith}
 use Rattle.memory_layout.specs.TableRows.{row}
-use borrow.Author.Rules.{rules}
 use Rattle.memory_readable.proofs.words_row.Goals as goal
 
 pub returns : goal.returns

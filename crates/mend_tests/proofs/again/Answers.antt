@@ -1,5 +1,4 @@
 -- `mend_tests::again` meets its contract. Assumes nothing.
-use borrow.Author.Rules.{rules}
 use mathlib.Core.Path.{sym, ap}
 use lib.Dec.{ltb}
 use lib.ListN.{get_or-eq_default}

@@ -1,5 +1,4 @@
 -- `mend_tests::count_one` meets its contract. Assumes nothing.
-use borrow.Author.Rules.{rules}
 use mathlib.Core.Path.{sym, ap}
 use lib.ListN.{set}
 use lib.Seq.{set_out}

@@ -1,5 +1,4 @@
 -- `mend_tests::followed` meets its contract. Assumes nothing.
-use borrow.Author.Rules.{rules}
 use mathlib.Core.Path.{refl}
 use Rattle.mend_tests.proofs.followed.Goals as goal
 

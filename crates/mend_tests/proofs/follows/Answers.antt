@@ -1,5 +1,4 @@
 -- `mend_tests::follows` meets its contract. Assumes nothing.
-use borrow.Author.Rules.{rules}
 use Prim.Native.Nat.{◌≤◌, ◌<◌}
 use native.Mathlib.Omega.{arith}
 use mathlib.Core.Path.{ap, ◌∙◌}
@@ -10,7 +9,7 @@ use Rattle.memory_layout.specs.Entries.{list_of}
 use Rattle.memory_layout.specs.Laws.{version-there, words_inside}
 use Rattle.memory_layout.proofs.Laws.{words-length}
 use Rattle.split_foreign.specs.Status.{greatest, standing}
-use Rattle.mend_tests.specs.Status.{followed, follows}
+use Rattle.mend_tests.specs.Status.{follows}
 use Rattle.mend_tests.specs.Laws.{followed-list, followed-table}
 use Rattle.mend_tests.proofs.follows.Goals as goal
 

@@ -1,5 +1,4 @@
 -- `mend_tests::lists_refusal` meets its contract. Assumes nothing.
-use borrow.Author.Rules.{rules}
 use native.Mathlib.Omega.{arith}
 use mathlib.Core.Path.{refl, sym, ap₂, ◌∙◌}
 use Rattle.memory_layout.specs.Laws.{version-there}

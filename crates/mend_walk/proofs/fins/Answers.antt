@@ -1,36 +1,23 @@
 -- `mend_walk::fins` meets its contract: a turn of the loop is one fin more. Assumes nothing.
 use native.Mathlib.Omega.{arith}
 use mathlib.Core.Path.{refl}
-use Prim.Native.Nat.{◌-◌}
-use lib.ListN.{length}
 use Rattle.meaning.specs.Walks.{readable_fin}
 use Rattle.meaning_mends.specs.Mends.{a_fin}
 use Rattle.mend_meetings.specs.Facts.{model_of}
-use Rattle.mend_meetings.specs.Laws.{fin_meeting}
-use Rattle.mend_walk.specs.Laws.{fin-present, entry-there, Turn, turn-first, turn-ready, turn-next, turn_last}
-use borrow.Author.Rules.{rules}
+use Rattle.mend_walk.specs.Laws.{fin-present, entry-there, turn-first, turn-ready, turn-next, turn_last}
 use Rattle.mend_walk.proofs.fins.Goals as goal
 
-pub loop-k-init : goal.loop-k-init
-loop-k-init c = turn-first
+pub loop-id-init : goal.loop-id-init
+loop-id-init c = turn-first
 
 pub meet-n-requires : goal.meet-n-requires
 meet-n-requires c =
     let s = c in
-    let t = c.loop-k in
-    record { ready = turn-ready t.invariant s.requires.ready; present = fin-present s.args.room.now s.args.words.now _ (entry-there (readable_fin (model_of s.args.room.now s.args.words.now)) s.args.ids.now t.k c.loop-k-test.true s.requires.ids_value) }
+    let t = c.loop-id in
+    record { ready = turn-ready t.invariant s.requires.ready; present = fin-present s.args.room.now s.args.words.now _ (entry-there (readable_fin (model_of s.args.room.now s.args.words.now)) s.args.ids.now t.id-index (omega arith) s.requires.ids_value) }
 
-pub loop-k-smaller : goal.loop-k-smaller
-loop-k-smaller c = omega arith
-
-pub loop-k-preserved : goal.loop-k-preserved
-loop-k-preserved c = turn-next c.loop-k.invariant c.loop-k-test.true (c.meet-n.ensures a_fin refl)
-
-pub shape_of-nums : goal.shape_of-nums
-shape_of-nums c = c.loop-k.invariant.walks.long
-
-pub shape_of-marks : goal.shape_of-marks
-shape_of-marks c = c.loop-k.invariant.walks.marks
+pub loop-id-preserved : goal.loop-id-preserved
+loop-id-preserved c = turn-next c.loop-id.invariant (omega arith) (c.meet-n.ensures a_fin refl)
 
 pub returns : goal.returns
-returns c = turn_last c.loop-k.invariant c.loop-k-test.false
+returns c = turn_last c.loop-id.invariant (omega arith)

@@ -1,17 +1,13 @@
 -- `mend_writes::apply` meets its contract: a turn of the loop stores one entry. Assumes nothing.
-use Prim.Native.Nat.{◌+◌, ◌*◌, ◌-◌, ◌/◌, ◌≤◌}
-use native.Mathlib.Nat.{div-add-mod'}
-use native.Mathlib.Omega.{arith}
-use mathlib.Core.Path.{◌≡◌, refl, ap, ◌∙◌}
-use lib.ListN.{length, take, drop}
+use Rattle.std.proofs.Common.{◌+◌, ◌*◌, ◌-◌, ◌/◌, ◌≡◌, length, take, drop, div-add-mod', arith, ap, ◌∙◌}
 use Rattle.mend_writes.specs.Facts.{entry_of}
-use Rattle.mend_writes.specs.Laws.{entry_made, entries_made, entries_none, entries-turn, made-long, entries-made, changes-entries}
+use Rattle.mend_writes.specs.Laws.{entry_made, entries_made, entries_none, entries-turn, entries-made, changes-entries}
 use Rattle.mend_writes.proofs.apply.Goals as goal
 
 pub loop-i-init : goal.loop-i-init
 loop-i-init c =
     let s = c in
-    (omega arith, refl, entries_none s.args.room.now s.args.words.now s.args.list.now)
+    entries_none s.args.room.now s.args.words.now s.args.list.now
 
 pub overflow_mul-at : goal.overflow_mul-at
 overflow_mul-at c = let s = c in record { fits = omega (arith, div-add-mod' (length s.args.list.now) 6) }
@@ -40,15 +36,8 @@ apply_change-requires c =
     let s = c in
     let i = c.loop-i.i in
     let six : 6 * i + 6 - 6 * i ≡ 6 = omega arith in
-    let long = c.loop-i.invariant.1 in
     let p = s.requires in
     record { small = p.small; room_in_bounds = omega (arith, p.words); stored = rw six (p.each i (omega (arith, div-add-mod' (length s.args.list.now) 6))) }
-
-pub overflow_add-i : goal.overflow_add-i
-overflow_add-i c = omega arith
-
-pub loop-i-smaller : goal.loop-i-smaller
-loop-i-smaller c = omega arith
 
 pub loop-i-preserved : goal.loop-i-preserved
 loop-i-preserved c =
@@ -60,10 +49,7 @@ loop-i-preserved c =
     let inv = c.loop-i.invariant in
     let six : 6 * i + 6 - 6 * i ≡ 6 = omega arith in
     let now = c.apply_change.ensures ∙ ap (λ n. entry_made room w (take n (drop (6 * i) list))) six in
-    (omega arith, ap length now ∙ made-long room w (entry_of list i) ∙ inv.1, now ∙ ap (λ v. entry_made room v (entry_of list i)) inv.2 ∙ entries-turn room s.args.words.now list i)
-
-pub shape_of-words : goal.shape_of-words
-shape_of-words c = c.loop-i.invariant.1
+    now ∙ ap (λ v. entry_made room v (entry_of list i)) inv ∙ entries-turn room s.args.words.now list i
 
 pub returns : goal.returns
 returns c l held =
@@ -72,7 +58,7 @@ returns c l held =
     let w = s.args.words.now in
     let all : c.loop-i.i ≡ length s.args.list.now / 6 = omega arith in
     let entries : length s.args.list.now / 6 ≡ length l = ap (λ r. length r / 6) held ∙ changes-entries l in
-    c.loop-i.invariant.2
+    c.loop-i.invariant
     ∙ ap (entries_made room w s.args.list.now) (all ∙ entries)
     ∙ ap (λ r. entries_made room w r (length l)) held
     ∙ entries-made room w l

@@ -5,7 +5,6 @@ use borrow.Author.Tests.{eq-eqb, ne_eqb}
 use Rattle.memory_layout.specs.Layout.{word}
 use Rattle.memory_layout.specs.Laws.{capacity-le}
 use Rattle.mend_writes.specs.Laws.{entry_made, parent-inside, fins-inside}
-use borrow.Author.Rules.{rules}
 use Rattle.mend_writes.proofs.apply_change.Goals as goal
 
 pub word_at-at-requires : goal.word_at-at-requires

@@ -2,7 +2,6 @@
 use mathlib.Core.Path.{refl}
 use native.Mathlib.Omega.{arith}
 use lib.ListN.{length-set}
-use borrow.Author.Rules.{rules}
 use Rattle.mend_writes.proofs.enlist.Goals as goal
 
 pub bounds-words-at-2 : goal.bounds-words-at-2

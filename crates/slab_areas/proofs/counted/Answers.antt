@@ -2,7 +2,6 @@
 use mathlib.Core.Path.{sym, ◌∙◌}
 use Rattle.slab_areas.specs.Laws.{off-grid}
 use Rattle.inquire_corners.specs.Machines.{read_count}
-use borrow.Author.Rules.{rules}
 use Rattle.slab_areas.proofs.counted.Goals as goal
 
 pub sixteenths-requires : goal.sixteenths-requires

@@ -2,7 +2,6 @@
 use Rattle.slab_areas.specs.Laws.{count_small, step-told}
 use Rattle.memory_layout.specs.Decode.{decode}
 use Rattle.inquire_fin_starts.specs.Starts.{start_point}
-use borrow.Author.Rules.{rules}
 use Rattle.slab_areas.proofs.step.Goals as goal
 
 pub start_point-p-requires : goal.start_point-p-requires

@@ -1,7 +1,6 @@
 -- `slab_edges::along_axis` meets its contract. Assumes nothing.
 use Rattle.memory_records.specs.Laws.{words-whole, counts-there}
 use Rattle.memory_layout.specs.Laws.{used-inside}
-use borrow.Author.Tests.{not-true, not-false}
 use mathlib.Core.Path.{◌≡◌}
 use lib.ListN.{length}
 use Rattle.slab_edges.specs.Laws.{ends-missing, start-there, end-there, ends-compared}

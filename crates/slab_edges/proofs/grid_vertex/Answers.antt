@@ -8,7 +8,6 @@ use mathlib.Core.Bool.{true, false}
 use lib.Dec.{ltb}
 use Rattle.memory_layout.specs.Layout.{word}
 use Rattle.meaning_sheets.specs.Sheets.{grid_point}
-use borrow.Author.Rules.{rules}
 use native.Mathlib.Omega.{arith}
 use Rattle.slab_edges.proofs.grid_vertex.Goals as goal
 

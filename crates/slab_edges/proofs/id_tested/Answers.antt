@@ -5,7 +5,6 @@ use Rattle.memory_layout.specs.Decode.{decode}
 use Rattle.geom_lines_planes.specs.Refuse.{◌unless◌}
 use Prim.Native.Nat.{suc}
 use mathlib.Core.Path.{ap, ◌∙◌}
-use borrow.Author.Rules.{rules}
 use native.Mathlib.Omega.{arith}
 use Rattle.slab_edges.proofs.id_tested.Goals as goal
 

@@ -1,6 +1,5 @@
 -- `slab_edges::point_at` meets its contract. Assumes nothing.
 use Rattle.memory_records.specs.Seen.{seen_vertex}
-use borrow.Author.Rules.{rules}
 use Rattle.slab_edges.proofs.point_at.Goals as goal
 
 pub returns : goal.returns

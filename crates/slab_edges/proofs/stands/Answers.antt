@@ -1,7 +1,6 @@
 -- `slab_edges::stands` meets its contract. Assumes nothing.
 use Rattle.slab_edges.specs.Tested.{stands_at}
 use mathlib.Core.Path.{refl}
-use borrow.Author.Rules.{rules}
 use Rattle.slab_edges.proofs.stands.Goals as goal
 
 pub returns : goal.returns

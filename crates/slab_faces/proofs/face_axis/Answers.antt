@@ -1,7 +1,6 @@
 -- `slab_faces::face_axis` meets its contract. Assumes nothing.
 use mathlib.Core.Path.{ap, ◌∙◌}
 use Rattle.meaning_slabs.specs.Slabs.{axis_of}
-use borrow.Author.Rules.{rules}
 use Rattle.slab_faces.proofs.face_axis.Goals as goal
 
 pub normal_of-requires : goal.normal_of-requires

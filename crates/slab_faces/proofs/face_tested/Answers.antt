@@ -11,7 +11,6 @@ use lib.Dec.{eqb}
 use borrow.Author.Tests.{eq-eqb, ne_eqb}
 use Rattle.meaning_slabs.specs.Slabs.{along_normal, signed_axis}
 use Rattle.geom_lines_planes.specs.Refuse.{◌unless◌}
-use borrow.Author.Rules.{rules}
 use native.Mathlib.Omega.{arith}
 use Rattle.slab_faces.proofs.face_tested.Goals as goal
 

@@ -2,7 +2,6 @@
 use mathlib.Core.Path.{ap, ◌∙◌}
 use Rattle.meaning_slabs.specs.Slabs.{on}
 use Rattle.inquire_fin_starts.specs.Starts.{start_point}
-use borrow.Author.Rules.{rules}
 use Rattle.slab_faces.proofs.height.Goals as goal
 
 pub start_point-requires : goal.start_point-requires

@@ -9,7 +9,7 @@ use Rattle.meaning.specs.Lists.{the}
 use Rattle.meaning.specs.Model.{surface}
 use Prim.Native.Nat.{ℕ}
 use mathlib.Core.List.{List}
-use Rattle.geom_carriers.specs.declared.Found.{Found}
+use Rattle.geom_carriers.specs.Found.{Found}
 use borrow.Author.Rules.{rules}
 use native.Mathlib.Omega.{arith}
 use Rattle.slab_faces.proofs.normal_of.Goals as goal

@@ -13,7 +13,6 @@ use Rattle.meaning.specs.Refuse.{first_refusal}
 use Rattle.meaning_slabs.specs.Slabs.{steps, closed, broken_fin}
 use Rattle.slab_fins.specs.Ends.{open_fin}
 use Rattle.geom_lines_planes.specs.Refuse.{◌unless◌}
-use borrow.Author.Rules.{rules}
 use Rattle.slab_faces.proofs.rim_tested.Goals as goal
 
 pub rim-requires : goal.rim-requires

@@ -5,7 +5,6 @@ use Rattle.walk_sources.specs.Sources.{fin_edge}
 use mathlib.Core.Path.{ap, ◌∙◌}
 use lib.ListN.{length}
 use Rattle.slab_fins.specs.Laws.{ends-told}
-use borrow.Author.Rules.{rules}
 use native.Mathlib.Omega.{arith}
 use Rattle.slab_fins.proofs.ends_at.Goals as goal
 

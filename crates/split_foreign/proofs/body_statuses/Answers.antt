@@ -1,5 +1,4 @@
 -- `split_foreign::body_statuses` meets its contract. Assumes nothing.
-use borrow.Author.Rules.{rules}
 use native.Mathlib.Omega.{arith}
 use mathlib.Core.Path.{refl}
 use Rattle.split_foreign.specs.Laws.{fresh-of, row_fits, rows-read}

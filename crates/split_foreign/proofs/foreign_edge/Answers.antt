@@ -1,9 +1,7 @@
 -- `split_foreign::foreign_edge` meets its contract. Assumes nothing.
-use borrow.Author.Rules.{rules}
 use native.Mathlib.Omega.{arith}
 use mathlib.Core.Path.{◌≡◌, refl, sym, ◌∙◌}
 use mathlib.Core.Bool.{false}
-use borrow.Author.Tests.{not-true}
 use lib.ListN.{replicate, get_or-replicate}
 use Rattle.split_foreign.specs.Status.{standing, others_with}
 use Rattle.split_foreign.specs.Laws.{fresh-of, row_fits}

@@ -1,34 +1,11 @@
 -- `split_foreign::names` meets its contract. Assumes nothing.
-use Prim.Native.Nat.{◌≤◌, ◌-◌}
-use native.Mathlib.Omega.{arith}
-use mathlib.Core.Path.{◌≡◌, refl, sym, ap, ◌∙◌}
-use lib.ListN.{length, take}
-use lib.Seq.{take_all}
-use Rattle.meaning.specs.Lists.{member}
+use Rattle.std.proofs.Common.{refl, sym, arith}
 use Rattle.meaning_list_laws.specs.Lists.{member-none}
 use Rattle.walk_marks.specs.Laws.{member-turn}
 use Rattle.split_foreign.proofs.names.Goals as goal
 
-pub loop-k-init : goal.loop-k-init
-loop-k-init c = (omega arith, sym (member-none _))
+pub loop-id-init : goal.loop-id-init
+loop-id-init c = sym (member-none _)
 
-pub offset_bounds-ids-k : goal.offset_bounds-ids-k
-offset_bounds-ids-k c = omega arith
-
-pub bounds-ids-k : goal.bounds-ids-k
-bounds-ids-k c = omega arith
-
-pub overflow_cast-found : goal.overflow_cast-found
-overflow_cast-found c = omega (arith, c.type_inv.ids c.loop-k.k)
-
-pub overflow_add-k : goal.overflow_add-k
-overflow_add-k c = omega arith
-
-pub loop-k-smaller : goal.loop-k-smaller
-loop-k-smaller c = omega arith
-
-pub loop-k-preserved : goal.loop-k-preserved
-loop-k-preserved c = (omega arith, member-turn _ c.args.ids.now c.loop-k.k _ _ (omega arith) c.loop-k.invariant.1 refl)
-
-pub returns : goal.returns
-returns c = c.loop-k.invariant.1 ∙ ap (member _) (take_all c.loop-k.k c.args.ids.now (omega arith))
+pub loop-id-preserved : goal.loop-id-preserved
+loop-id-preserved c = member-turn _ c.args.ids.now c.loop-id.id-index _ _ (omega arith) c.loop-id.invariant refl

@@ -1,5 +1,4 @@
 -- `split_foreign::record_status` meets its contract. Assumes nothing.
-use borrow.Author.Rules.{rules}
 use native.Mathlib.Omega.{arith}
 use mathlib.Core.Path.{ap, ap₂, ◌∙◌}
 use borrow.Author.Tests.{ne_eqb, eq-eqb}

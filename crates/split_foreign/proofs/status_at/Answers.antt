@@ -1,5 +1,4 @@
 -- `split_foreign::status_at` meets its contract. Assumes nothing.
-use borrow.Author.Rules.{rules}
 use mathlib.Core.Path.{sym}
 use lib.ListN.{get_or-eq_default}
 use Rattle.split_foreign.specs.Laws.{standing-in}

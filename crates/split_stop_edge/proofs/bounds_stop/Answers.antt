@@ -17,7 +17,6 @@ use mathlib.Core.List.{List}
 use lib.ListN.{length}
 use lib.Dec.{lit<}
 use mathlib.Core.Path.{◌≡◌, sym, ap, ◌∙◌}
-use native.Mathlib.Omega.{arith}
 use Rattle.split_stop_edge.proofs.bounds_stop.Goals as goal
 
 pub words_of-w-requires : goal.words_of-w-requires

@@ -2,7 +2,6 @@
 use Rattle.split_stop_room.specs.RoomRows.{tables_told}
 use Rattle.split_fins.specs.Laws.{counts-listed}
 use native.Mathlib.Omega.{arith}
-use borrow.Author.Rules.{rules}
 use Rattle.split_stop_room.proofs.tables_stop.Goals as goal
 
 pub bounds-words-5 : goal.bounds-words-5

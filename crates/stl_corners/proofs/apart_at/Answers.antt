@@ -2,7 +2,6 @@
 use native.Mathlib.Omega.{arith}
 use mathlib.Core.Path.{ap, ap₂, ◌∙◌}
 use mathlib.Core.Bool.{not, ◌||◌}
-use borrow.Author.Rules.{rules}
 use Rattle.stl_body.specs.Read.{same_point}
 use Rattle.stl_corners.specs.Laws.{apart_parts}
 use Rattle.stl_corners.proofs.apart_at.Goals as goal

@@ -1,6 +1,5 @@
 -- `stl_corners::coordinate_in` meets its contract. Assumes nothing.
 use mathlib.Core.Path.{ap, ◌∙◌}
-use borrow.Author.Rules.{rules}
 use lib.Ieee.{binary32, of_bits}
 use Rattle.stl_body.specs.Read.{coordinate_in}
 use Rattle.stl_corners.proofs.coordinate_in.Goals as goal

@@ -1,7 +1,6 @@
 -- `stl_corners::corner_in` meets its contract. Assumes nothing.
 use native.Mathlib.Omega.{arith}
 use mathlib.Core.Path.{◌∙◌}
-use borrow.Author.Rules.{rules}
 use Rattle.stl_corners.specs.Laws.{corner-parts}
 use Rattle.stl_corners.proofs.corner_in.Goals as goal
 

@@ -2,7 +2,6 @@
 use native.Mathlib.Omega.{arith}
 use mathlib.Core.Path.{◌≡◌, ◌∙◌}
 use mathlib.Core.Bool.{true, false}
-use borrow.Author.Tests.{not-true, not-false}
 use Rattle.stl_body.specs.Read.{stl_triangles, corners, all_finite, all_apart}
 use Rattle.stl_corners.specs.Laws.{fit_length, of-all}
 use Rattle.stl_corners.proofs.corners_refusal.Goals as goal

@@ -2,7 +2,6 @@
 use native.Mathlib.Omega.{arith}
 use mathlib.Core.Path.{ap, ap₂, ◌∙◌}
 use mathlib.Core.Bool.{◌&&◌}
-use borrow.Author.Rules.{rules}
 use Rattle.float_vectors.specs.Space.{finite_point}
 use Rattle.stl_corners.specs.Laws.{finite-parts}
 use Rattle.stl_corners.proofs.finite_at.Goals as goal

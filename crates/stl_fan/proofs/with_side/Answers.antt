@@ -4,7 +4,6 @@ use native.Mathlib.Omega.{arith}
 use mathlib.Core.Path.{refl, ap, ◌∙◌}
 use mathlib.Core.List.{map}
 use lib.ListN.{length}
-use borrow.Author.Rules.{rules}
 use Rattle.memory_layout.specs.Laws.{lists_of, words_inside}
 use Rattle.memory_layout.proofs.Laws.{words-length}
 use Rattle.memory_layout.specs.Decode.{decode}

@@ -1,6 +1,5 @@
 -- `stl_numbers::corner_at` meets its contract. Assumes nothing.
 use native.Mathlib.Omega.{arith}
-use borrow.Author.Rules.{rules}
 use Rattle.stl_numbers.proofs.corner_at.Goals as goal
 
 pub overflow_mul-k : goal.overflow_mul-k

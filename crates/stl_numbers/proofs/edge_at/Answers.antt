@@ -1,7 +1,6 @@
 -- `stl_numbers::edge_at` meets its contract. Assumes nothing.
 use native.Mathlib.Omega.{arith}
 use mathlib.Core.Path.{ap, ◌∙◌}
-use borrow.Author.Rules.{rules}
 use lib.ListN.{get_or}
 use Rattle.stl_body.specs.Read.{step, edge_of}
 use Rattle.stl_numbers.proofs.edge_at.Goals as goal

@@ -1,16 +1,8 @@
 -- `stl_numbers::edge_place` meets its contract: a turn of the loop passes one more. Assumes nothing.
-use Prim.Native.Nat.{◌-◌, ◌≤◌}
-use native.Mathlib.Omega.{arith}
-use mathlib.Core.Path.{sym}
 use Rattle.stl_body.specs.Read.{step, same_step}
 use Rattle.stl_numbers.specs.Numbered.{things_in, step_in}
-use Rattle.stl_numbers.specs.Corners.{step-at}
 use Rattle.stl_numbers.specs.Met.{Passed}
-use Rattle.stl_numbers.specs.Laid.{search-none, search-here, search-more, search-all}
 use Rattle.stl_numbers.proofs.edge_place.Given as goal
 
 abbrev pub invariant-loop-i : goal.invariant-loop-i
-invariant-loop-i l = (l.i ≤ l.many) × Passed same_step (step l.e.from l.e.to) (things_in step_in 2 l.many l.ends) l.i
-
-abbrev pub decreases-loop-i : goal.decreases-loop-i
-decreases-loop-i l = l.many - l.i
+invariant-loop-i l = Passed same_step (step l.e.from l.e.to) (things_in step_in 2 l.many l.ends) l.i

@@ -1,10 +1,6 @@
 -- `stl_regions::with_shell` meets its contract: a turn of the loop is one face more. Assumes nothing.
-use Prim.Native.Nat.{◌+◌, ◌*◌, ◌-◌, ◌≤◌}
-use native.Mathlib.Omega.{arith}
-use mathlib.Core.Path.{◌≡◌, refl, ap, ◌∙◌, subst}
-use mathlib.Core.List.{List, [], ◌∷◌, map}
-use lib.ListN.{length, get_or, take}
-use lib.Seq.{take_all}
+use Rattle.std.specs.Prelude.{List, [], ◌∷◌, map, length, get_or, take}
+use Rattle.std.proofs.Common.{arith, ap, ◌∙◌, subst, take_all}
 use Rattle.meaning.specs.Lists.{all}
 use Rattle.meaning.specs.Inquire.{Side}
 use Rattle.walk_marks.specs.Laws.{all-nth}
@@ -24,59 +20,42 @@ list-faces-requires c =
     let s = c in
     record { lists = lists_of s.args.room.now s.args.words.now s.args.reals.now s.requires.fit; j_bound = (omega arith, s.requires.shell_bound) }
 
-pub loop-k-init : goal.loop-k-init
-loop-k-init c =
+pub loop-face-init : goal.loop-face-init
+loop-face-init c =
     let s = c in
-    (omega arith, refl, omega arith, drawn-none (decode s.args.room.now s.args.words.now s.args.reals.now) s.args.before s.args.bytes.now)
-
-pub offset_bounds-faces-k : goal.offset_bounds-faces-k
-offset_bounds-faces-k c = omega arith
-
-pub bounds-faces-k : goal.bounds-faces-k
-bounds-faces-k c = omega arith
+    (omega arith, drawn-none (decode s.args.room.now s.args.words.now s.args.reals.now) s.args.before s.args.bytes.now)
 
 pub with_side-t-requires : goal.with_side-t-requires
 unfolding faces_whole
 with_side-t-requires c =
     let s = c in
     let faces = c.list-faces.result.now in
-    let k = c.loop-k.k in
-    let few = c.loop-k.invariant.2 in
+    let k = c.loop-face.face-index in
+    let few = c.loop-face.invariant.0 in
     let start = s.requires.count_bound in
     let short = listed_le s.args.room.now s.args.words.now 2 s.args.shell (lists_of s.args.room.now s.args.words.now s.args.reals.now s.requires.fit) (omega arith) s.requires.shell_bound in
     record { fit = s.requires.fit; face_value = all-nth (face_whole s.args.room.now s.args.words.now) faces k (ap (all (face_whole s.args.room.now s.args.words.now)) c.list-faces.ensures ∙ s.requires.shell_value) (omega arith); face_value_2 = side-none s.args.room.now s.args.words.now s.args.reals.now s.args.shell faces k (omega arith) c.list-faces.ensures s.requires.shell_value_2; count_bound = omega (arith, ap length c.list-faces.ensures) }
 
-pub overflow_add-k : goal.overflow_add-k
-overflow_add-k c = omega arith
-
-pub loop-k-smaller : goal.loop-k-smaller
-loop-k-smaller c = omega arith
-
-pub loop-k-preserved : goal.loop-k-preserved
-loop-k-preserved c =
+pub loop-face-preserved : goal.loop-face-preserved
+loop-face-preserved c =
     let s = c in
-    let turn = c.loop-k in
+    let turn = c.loop-face in
     let faces = c.list-faces.result.now in
-    let few = turn.invariant.2 in
+    let few = turn.invariant.0 in
     let more = c.with_side-t.ensures.few in (
       omega arith,
-      c.with_side-t.auto.bytes ∙ turn.invariant.1,
-      omega arith,
-      subst (λ (l : List Side). Drawn (decode s.args.room.now s.args.words.now s.args.reals.now) l s.args.before c.with_side-t.result s.args.bytes.now c.with_side-t.new.bytes) (faces-turn (decode s.args.room.now s.args.words.now s.args.reals.now) [] s.args.shell faces turn.k (omega arith))
-          (drawn-more (decode s.args.room.now s.args.words.now s.args.reals.now) (map (λ f. record { shell = s.args.shell; face = f }) (take turn.k faces)) (record { shell = s.args.shell; face = get_or faces turn.k 0 } ∷ []) turn.invariant.3 c.with_side-t.ensures.drawn),
+      subst (λ (l : List Side). Drawn (decode s.args.room.now s.args.words.now s.args.reals.now) l s.args.before c.with_side-t.result s.args.bytes.now c.with_side-t.new.bytes) (faces-turn (decode s.args.room.now s.args.words.now s.args.reals.now) [] s.args.shell faces turn.face-index (omega arith))
+          (drawn-more (decode s.args.room.now s.args.words.now s.args.reals.now) (map (λ f. record { shell = s.args.shell; face = f }) (take turn.face-index faces)) (record { shell = s.args.shell; face = get_or faces turn.face-index 0 } ∷ []) turn.invariant.1 c.with_side-t.ensures.drawn),
     )
-
-pub shape_of-bytes : goal.shape_of-bytes
-shape_of-bytes c = c.loop-k.invariant.1
 
 pub returns : goal.returns
 returns c =
     let s = c in
-    let turn = c.loop-k in
-    let few = turn.invariant.2 in
+    let turn = c.loop-face in
+    let few = turn.invariant.0 in
     let short = listed_le s.args.room.now s.args.words.now 2 s.args.shell (lists_of s.args.room.now s.args.words.now s.args.reals.now s.requires.fit) (omega arith) s.requires.shell_bound in record {
       drawn = subst (λ (l : List Side). Drawn (decode s.args.room.now s.args.words.now s.args.reals.now) l s.args.before turn.t s.args.bytes.now turn.bytes)
-          (ap (map (λ f. record { shell = s.args.shell; face = f })) (take_all turn.k c.list-faces.result.now (omega arith) ∙ c.list-faces.ensures) ∙ sides-list s.args.room.now s.args.words.now s.args.reals.now s.args.shell)
-          turn.invariant.3;
+          (ap (map (λ f. record { shell = s.args.shell; face = f })) (take_all turn.face-index c.list-faces.result.now (omega arith) ∙ c.list-faces.ensures) ∙ sides-list s.args.room.now s.args.words.now s.args.reals.now s.args.shell)
+          turn.invariant.1;
       few = omega (arith, ap length c.list-faces.ensures);
     }

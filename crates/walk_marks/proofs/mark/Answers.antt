@@ -1,7 +1,6 @@
 -- `walk_marks::mark` meets its contract. Assumes nothing.
 use mathlib.Core.Path.{sym}
 use lib.Seq.{set_out}
-use borrow.Author.Rules.{rules}
 use Rattle.walk_marks.proofs.mark.Goals as goal
 
 pub returns-else-i-marks : goal.returns-else-i-marks

@@ -1,5 +1,4 @@
 -- `walk_paths::face_path` meets its contract. Assumes nothing.
-use borrow.Author.Rules.{rules}
 use Rattle.walk_paths.specs.Paths.{face_path}
 use Rattle.walk_paths.specs.Laws.{laid_one}
 use Rattle.walk_paths.proofs.face_path.Goals as goal

@@ -1,7 +1,6 @@
 -- `walk_paths::faces` meets its contract. Assumes nothing.
 use mathlib.Core.Path.{sym, ap, ◌∙◌}
 use native.Mathlib.Omega.{arith}
-use borrow.Author.Rules.{rules}
 use lib.ListN.{length, replicate}
 use lib.Seq.{length-take-le}
 use Rattle.walk_paths.specs.Laws.{laid-short, laid-front, sources-front, face-path-short, face-sources}

@@ -1,7 +1,6 @@
 -- `walk_paths::faces_there` meets its contract. Assumes nothing.
 use mathlib.Core.Path.{sym}
 use native.Mathlib.Omega.{arith}
-use borrow.Author.Rules.{rules}
 use lib.Seq.{length-take-le}
 use Rattle.walk_sources.specs.Laws.{used-words}
 use Rattle.walk_paths.specs.Paths.{faces_there}

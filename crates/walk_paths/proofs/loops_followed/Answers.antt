@@ -1,7 +1,6 @@
 -- `walk_paths::loops_followed` meets its contract. Assumes nothing.
 use mathlib.Core.Path.{sym, ap, ◌∙◌}
 use native.Mathlib.Omega.{arith}
-use borrow.Author.Rules.{rules}
 use lib.Seq.{length-take-le}
 use Rattle.meaning.specs.Lists.{all}
 use Rattle.walk_paths.specs.Paths.{loop_list, loops_followed}

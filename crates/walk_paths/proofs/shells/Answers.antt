@@ -1,7 +1,6 @@
 -- `walk_paths::shells` meets its contract. Assumes nothing.
 use mathlib.Core.Path.{ap, ◌∙◌}
 use native.Mathlib.Omega.{arith}
-use borrow.Author.Rules.{rules}
 use lib.ListN.{length}
 use Rattle.meaning.specs.Lists.{all}
 use Rattle.walk_paths.specs.Paths.{shell_list}

@@ -1,7 +1,6 @@
 -- `walk_paths::vertex_path` meets its contract: the edges, then the shells. Assumes nothing.
 use mathlib.Core.Path.{sym, ap, ◌∙◌}
 use native.Mathlib.Omega.{arith}
-use borrow.Author.Rules.{rules}
 use lib.ListN.{length}
 use lib.Seq.{length-take-le}
 use Rattle.meaning.specs.Lists.{all}

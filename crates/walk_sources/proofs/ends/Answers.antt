@@ -1,5 +1,4 @@
 -- `walk_sources::ends` meets its contract: the start, then the end. Assumes nothing.
-use borrow.Author.Rules.{rules}
 use native.Mathlib.Omega.{arith}
 use Rattle.memory_layout.specs.Layout.{word}
 use Rattle.walk_sources.specs.Laws.{end_short, took-ends}

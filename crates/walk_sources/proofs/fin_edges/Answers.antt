@@ -1,10 +1,8 @@
 -- `walk_sources::fin_edges` meets its contract: a turn of the loop is one more fin. Assumes nothing.
-use Prim.Native.Nat.{ℕ, ◌≤◌, ◌-◌}
-use mathlib.Core.Path.{◌≡◌, refl, sym, ap, ◌∙◌}
-use mathlib.Core.List.{map}
-use native.Mathlib.Omega.{arith}
-use lib.ListN.{length, get_or, take, length-map}
-use lib.Seq.{take_all}
+use Rattle.std.specs.Prelude.{ℕ, map, length, get_or}
+use Rattle.std.proofs.Common.{arith, sym, ap, ◌∙◌}
+use Rattle.std.proofs.lemmas.List.{length-map}
+use Rattle.std.proofs.Math.Seq.{take_all}
 use Rattle.meaning_list_laws.specs.Lists.{below-nth}
 use Rattle.memory_layout.specs.Layout.{word}
 use Rattle.memory_layout.specs.Laws.{words_inside}
@@ -15,16 +13,7 @@ use Rattle.walk_sources.specs.Sources.{fin_edge}
 use Rattle.walk_sources.proofs.fin_edges.Goals as goal
 
 pub loop-k-init : goal.loop-k-init
-loop-k-init c = (omega arith, refl, sym (puts_none _ _))
-
-pub offset_bounds-fins-k : goal.offset_bounds-fins-k
-offset_bounds-fins-k c = omega arith
-
-pub bounds-fins-k : goal.bounds-fins-k
-bounds-fins-k c = omega arith
-
-pub overflow_cast-fins : goal.overflow_cast-fins
-overflow_cast-fins c = omega (arith, c.type_inv.fins c.loop-k.k)
+loop-k-init c = sym (puts_none _ _)
 
 pub words_of-fin-requires : goal.words_of-fin-requires
 words_of-fin-requires c =
@@ -38,31 +27,16 @@ bounds-fin-1 c =
     let f = words_inside s.args.room.now s.args.words.now 5 (get_or s.args.fins.now k 0) s.requires.lists (omega arith) (below-nth (word s.args.words.now 5) s.args.fins.now k s.requires.fins_value (omega arith)) in
     omega (arith, ap length c.words_of-fin.ensures, words-length s.args.room.now s.args.words.now 5 (get_or s.args.fins.now k 0) f)
 
-pub put-requires : goal.put-requires
-put-requires c = omega arith
-
-pub overflow_add-k : goal.overflow_add-k
-overflow_add-k c = omega arith
-
-pub loop-k-smaller : goal.loop-k-smaller
-loop-k-smaller c = omega arith
-
 pub loop-k-preserved : goal.loop-k-preserved
 loop-k-preserved c =
     let s = c in
     let k = c.loop-k.k in
-    let f : ℕ → ℕ = fin_edge s.args.room.now s.args.words.now in (
-      omega arith,
-      omega arith,
-      puts-turn s.args.buf.now (map f s.args.fins.now) 0 k _ _ _ _ (omega (arith, length-map s.args.fins.now f)) (omega arith)
-          (ap (λ l. word l 1) c.words_of-fin.ensures ∙ sym (map-nth f s.args.fins.now k (omega arith))) c.loop-k.invariant.2 c.put.ensures,
-    )
-
-pub shape_of-buf : goal.shape_of-buf
-shape_of-buf c = omega arith
+    let f : ℕ → ℕ = fin_edge s.args.room.now s.args.words.now in
+    puts-turn s.args.buf.now (map f s.args.fins.now) 0 k _ _ _ _ (omega (arith, length-map s.args.fins.now f)) (omega arith)
+    (ap (λ l. word l 1) c.words_of-fin.ensures ∙ sym (map-nth f s.args.fins.now k (omega arith))) c.loop-k.invariant c.put.ensures
 
 pub returns : goal.returns
 returns c =
     let s = c in
     let f : ℕ → ℕ = fin_edge s.args.room.now s.args.words.now in
-    c.loop-k.invariant.2 ∙ ap (puts _ _) (take_all c.loop-k.k (map f s.args.fins.now) (omega (arith, length-map s.args.fins.now f)))
+    c.loop-k.invariant ∙ ap (puts _ _) (take_all c.loop-k.k (map f s.args.fins.now) (omega (arith, length-map s.args.fins.now f)))

@@ -1,5 +1,4 @@
 -- `walk_sources::put_end` meets its contract. Assumes nothing.
-use borrow.Author.Rules.{rules}
 use Rattle.walk_sources.specs.Laws.{end_none, end-some}
 use Rattle.walk_sources.proofs.put_end.Goals as goal
 

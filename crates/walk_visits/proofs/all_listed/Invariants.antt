@@ -1,18 +1,9 @@
 -- `walk_visits::all_listed` meets its contract: a turn of the loop is one more source. Assumes nothing.
-use Prim.Native.Nat.{◌≤◌, ◌-◌}
-use mathlib.Core.Path.{◌≡◌, refl, sym, ◌∙◌}
-use native.Mathlib.Omega.{arith}
-use lib.Dec.{ltb}
-use lib.ListN.{length, take}
-use lib.Seq.{take_all, length-take-le}
-use Rattle.meaning_list_laws.specs.Lists.{all_none}
+use Rattle.std.specs.Prelude.{◌≡◌, ltb, length}
+use Rattle.std.proofs.Common.{take}
 use Rattle.meaning.specs.Lists.{all, joined}
 use Rattle.walk_sources.specs.Sources.{part_of}
-use Rattle.walk_visits.specs.Laws.{took-front, took-length, below-turn}
 use Rattle.walk_visits.proofs.all_listed.Given as goal
 
-abbrev pub invariant-loop-p : goal.invariant-loop-p
-invariant-loop-p l = (l.p ≤ length l.path) × (length l.buf ≡ 1024) × (l.ok ≡ all (λ x. ltb x l.used) (joined (part_of l.room l.words) (take l.p l.path)))
-
-abbrev pub decreases-loop-p : goal.decreases-loop-p
-decreases-loop-p l = length l.path - l.p
+abbrev pub invariant-loop-source : goal.invariant-loop-source
+invariant-loop-source l = (length l.buf ≡ 1024) × (l.ok ≡ all (λ x. ltb x l.used) (joined (part_of l.room l.words) (take l.source-index l.path)))

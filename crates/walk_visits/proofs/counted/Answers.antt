@@ -1,5 +1,4 @@
 -- `walk_visits::counted` meets its contract. Assumes nothing.
-use borrow.Author.Rules.{rules}
 use Rattle.walk_visits.proofs.counted.Goals as goal
 
 pub returns-else-seen : goal.returns-else-seen

@@ -1,5 +1,4 @@
 -- `walk_visits::met` meets its contract: by the marks, or by a search. Assumes nothing.
-use borrow.Author.Rules.{rules}
 use lib.ListN.{take}
 use Rattle.meaning_list_laws.specs.Lists.{member-append}
 use Rattle.walk_visits.specs.Visits.{ids_of}

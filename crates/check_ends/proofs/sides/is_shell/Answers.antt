@@ -5,5 +5,5 @@ use Rattle.check_ends.proofs.sides.is_shell.Goals as goal
 pub returns-in-None : goal.returns-in-None
 returns-in-None c = rw c.in-None.is
 
-pub returns-in-Is : goal.returns-in-Is
-returns-in-Is c = rw c.in-Is.is
+pub returns-in-Some : goal.returns-in-Some
+returns-in-Some c = rw c.in-Some.is

@@ -6,7 +6,6 @@ use Rattle.check_reasons.specs.Log.{class_at}
 use Rattle.check_reasons.specs.Laws.{enough-same, noted-same}
 use Rattle.check_points.specs.Points.{code_findings}
 use Rattle.check_points.specs.NoteLaws.{error-coded, error-few}
-use borrow.Author.Rules.{rules}
 use Rattle.check_points.proofs.notes.geometry_error.Goals as goal
 
 pub log_code-requires : goal.log_code-requires

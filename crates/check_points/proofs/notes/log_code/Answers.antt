@@ -5,7 +5,6 @@ use Rattle.meaning.specs.Faults.{about}
 use Rattle.check_reasons.specs.Log.{class_at}
 use Rattle.check_reasons.specs.Laws.{enough-same, noted-none, noted-same}
 use Rattle.check_points.specs.NoteLaws.{code-none, code-skipped, code-noted}
-use borrow.Author.Rules.{rules}
 use Rattle.check_points.proofs.notes.log_code.Goals as goal
 
 pub returns-then-code-eq0 : goal.returns-then-code-eq0

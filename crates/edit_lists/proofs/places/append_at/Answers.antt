@@ -1,7 +1,6 @@
 -- `edit_lists::places::append_at` meets its contract. Assumes nothing.
 use native.Mathlib.Omega.{arith}
 use Rattle.edit_lists.specs.PlaceLaws.{append-turn}
-use borrow.Author.Rules.{rules}
 use Rattle.edit_lists.proofs.places.append_at.Goals as goal
 
 pub overflow_add-w-3 : goal.overflow_add-w-3

@@ -1,6 +1,5 @@
 -- `edit_lists::places::put_at` meets its contract. Assumes nothing.
 use Rattle.edit_lists.specs.PlaceLaws.{put-turn}
-use borrow.Author.Rules.{rules}
 use Rattle.edit_lists.proofs.places.put_at.Goals as goal
 
 pub returns : goal.returns

@@ -2,7 +2,6 @@
 use mathlib.Core.Path.{sym, ap, ◌∙◌}
 use Rattle.geom_lines_planes.specs.declared.tolerance.Tolerance.{Tolerance}
 use Rattle.geom_lines_planes.specs.Geometry.{effective}
-use borrow.Author.Rules.{rules}
 use Rattle.geom_lines_planes.proofs.tolerance.effective_tolerance.Goals as goal
 
 pub returns-in-Own : goal.returns-in-Own

@@ -2,7 +2,6 @@
 use mathlib.Core.Path.{sym, ap, ◌∙◌}
 use Rattle.geom_lines_planes.specs.declared.tolerance.Version.{Version}
 use Rattle.geom_lines_planes.specs.Geometry.{rule}
-use borrow.Author.Rules.{rules}
 use Rattle.geom_lines_planes.proofs.tolerance.rule.Goals as goal
 
 pub returns-in-First : goal.returns-in-First

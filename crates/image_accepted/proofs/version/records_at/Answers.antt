@@ -1,6 +1,5 @@
 -- `image_accepted::version::records_at` meets its contract. Assumes nothing.
 use mathlib.Core.Path.{◌≡◌, sym, ◌∙◌}
-use borrow.Author.Rules.{rules}
 use Rattle.geom_lines_planes.specs.declared.tolerance.Version.TheVariants.{First, Second}
 use Rattle.image_format.specs.Image.{version_in}
 use Rattle.image_accepted.specs.Version.{first_of, second-of, first-long, second-long}

@@ -2,7 +2,6 @@
 use Prim.Native.Nat.{ℕ}
 use mathlib.Core.Path.{ap, ◌∙◌}
 use lib.ListN.{drop}
-use borrow.Author.Rules.{rules}
 use Rattle.memory_layout.specs.TableRows.{rest}
 use Rattle.image_format.specs.Image.{records_in}
 use Rattle.image_accepted.proofs.version.records_in.Goals as goal

@@ -1,7 +1,6 @@
 -- `image_accepted::version::version_good` meets its contract: each way out is the first test that fails. Assumes nothing.
 use mathlib.Core.Path.{◌≡◌, sym, ◌∙◌}
 use native.Mathlib.Omega.{arith}
-use borrow.Author.Rules.{rules}
 use borrow.Author.Tests.{lt-leb, le-leb}
 use Rattle.geom_lines_planes.specs.declared.tolerance.Version.TheVariants.{Second}
 use Rattle.image_format.specs.Image.{version_in}

@@ -1,7 +1,6 @@
 -- `image_accepted::version::version_in` meets its contract. Assumes nothing.
 use mathlib.Core.Path.{sym, ap, ◌∙◌}
 use native.Mathlib.Omega.{arith}
-use borrow.Author.Rules.{rules}
 use Rattle.memory_layout.specs.Laid.{version_tag}
 use Rattle.image_laws.specs.Machines.{below_all}
 use Rattle.image_accepted.specs.Version.{too_short, marked, unmarked}

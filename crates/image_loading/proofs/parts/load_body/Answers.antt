@@ -6,7 +6,6 @@ use mathlib.Core.List.{List, [], ◌∷◌}
 use Rattle.memory_writes.specs.Put.{over}
 use Rattle.memory_writes.specs.Over.{two-stores}
 use Rattle.image_loading.specs.Laws.{body-front}
-use borrow.Author.Rules.{rules}
 use Rattle.image_loading.proofs.parts.load_body.Goals as goal
 
 pub returns : goal.returns

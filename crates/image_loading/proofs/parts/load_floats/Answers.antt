@@ -7,7 +7,6 @@ use lib.ListN.{drop, length-drop}
 use Rattle.image_format.specs.Bytes.{floats_in}
 use Rattle.image_laws.specs.Sizes.{all-floats}
 use Rattle.image_loading.specs.Laws.{its-count, fixed-there, record-floats}
-use borrow.Author.Rules.{rules}
 use Rattle.image_loading.proofs.parts.load_floats.Goals as goal
 
 pub overflow_mul-numbers : goal.overflow_mul-numbers

@@ -15,7 +15,6 @@ use Rattle.image_laws.specs.Sizes.{numbers_fit}
 use Rattle.image_record_test.specs.Parts.{fixed_size}
 use Rattle.image_loading.specs.Laid.{front_of}
 use Rattle.image_loading.specs.Laws.{ten_counts, its-count, fixed-there, plain-front}
-use borrow.Author.Rules.{rules}
 use Rattle.image_loading.proofs.parts.load_front.Goals as goal
 
 pub load_body-requires : goal.load_body-requires

@@ -9,7 +9,6 @@ use Rattle.memory_writes.specs.Over.{taken_back}
 use Rattle.image_format.specs.Bytes.{number, words_in}
 use Rattle.image_laws.specs.Numbers.{length-words_in}
 use Rattle.image_loading.specs.Steps.{behind_list, list_over}
-use borrow.Author.Rules.{rules}
 use Rattle.image_loading.proofs.parts.load_list.Goals as goal
 
 pub get_words-requires : goal.get_words-requires

@@ -3,7 +3,6 @@ use native.Mathlib.Omega.{arith}
 use mathlib.Core.Path.{refl}
 use Rattle.image_loading.specs.Steps.{behind_lists, lists_over}
 use Rattle.image_loading.specs.Laws.{no-places}
-use borrow.Author.Rules.{rules}
 use Rattle.image_loading.proofs.parts.load_lists.Goals as goal
 
 pub load_list-requires : goal.load_list-requires

@@ -4,7 +4,6 @@ use mathlib.Core.Path.{ap, ap₂, ◌∙◌}
 use mathlib.Core.List.{List}
 use Rattle.memory_layout.specs.Names.{AT_SHELL_WIRES, AT_SHELL_ACORNS}
 use Rattle.image_loading.specs.Steps.{behind_list, list_over, behind_lists, lists_over}
-use borrow.Author.Rules.{rules}
 use Rattle.image_loading.proofs.parts.load_shell.Goals as goal
 
 pub load_list-wires-requires : goal.load_list-wires-requires

@@ -8,7 +8,6 @@ use Rattle.image_format.specs.Fields.{list_places_of}
 use Rattle.image_record_test.specs.Facts.{its-size}
 use Rattle.image_loading.specs.Steps.{lists_over, behind_lists}
 use Rattle.image_loading.specs.Laws.{fixed-there, lists-there, record-laid, record-behind}
-use borrow.Author.Rules.{rules}
 use Rattle.image_loading.proofs.parts.load_words.Goals as goal
 
 pub overflow_add-lists : goal.overflow_add-lists

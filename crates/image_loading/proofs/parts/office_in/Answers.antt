@@ -1,7 +1,6 @@
 -- `image_loading::parts::office_in` meets its contract. Assumes nothing.
 use borrow.Author.Tests.{eq-eqb, ne_eqb}
 use Rattle.image_format.specs.Fields.{SECOND_BODY_MARK}
-use borrow.Author.Rules.{rules}
 use Rattle.image_loading.proofs.parts.office_in.Goals as goal
 
 pub returns-then-mark_in-eq-SECOND_BODY_MARK : goal.returns-then-mark_in-eq-SECOND_BODY_MARK

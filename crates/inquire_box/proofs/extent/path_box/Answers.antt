@@ -2,7 +2,6 @@
 use native.Mathlib.Omega.{arith}
 use mathlib.Core.Path.{◌≡◌, sym, ap, ◌∙◌}
 use mathlib.Core.Bool.{true}
-use borrow.Author.Tests.{not-true, not-false}
 use lib.Dec.{ltb}
 use lib.ListN.{length, replicate}
 use lib.Seq.{length-take-le}
@@ -16,7 +15,6 @@ use Rattle.walk_paths.specs.Laws.{firsts-short, visited-front, visited-short}
 use Rattle.walk_answers.specs.Laws.{marked-zeros}
 use Rattle.inquire_box.specs.Walked.{extent_box}
 use Rattle.inquire_box.specs.Laws.{box-missing, box-walked}
-use borrow.Author.Rules.{rules}
 use Rattle.inquire_box.proofs.extent.path_box.Goals as goal
 
 pub bounds-words-7 : goal.bounds-words-7

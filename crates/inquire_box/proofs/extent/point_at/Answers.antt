@@ -1,6 +1,5 @@
 -- `inquire_box::extent::point_at` meets its contract. Assumes nothing.
 use Rattle.memory_records.specs.Seen.{seen_vertex}
-use borrow.Author.Rules.{rules}
 use Rattle.inquire_box.proofs.extent.point_at.Goals as goal
 
 pub returns : goal.returns

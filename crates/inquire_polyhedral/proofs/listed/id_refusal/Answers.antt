@@ -1,7 +1,6 @@
 -- `inquire_polyhedral::listed::id_refusal` meets its contract: which test it is. Assumes nothing.
 use borrow.Author.Tests.{ne_eqb}
 use Rattle.inquire_polyhedral.specs.Tested.{tested}
-use borrow.Author.Rules.{rules}
 use Rattle.inquire_polyhedral.proofs.listed.id_refusal.Goals as goal
 
 pub returns-then-test-eq-FLAT : goal.returns-then-test-eq-FLAT

@@ -11,7 +11,6 @@ use Rattle.geom_lines_planes.specs.Refuse.{◌unless◌}
 use Rattle.meaning.specs.Lists.{all}
 use Rattle.walk_sources.specs.Sources.{followed}
 use Rattle.inquire_polyhedral.specs.Tested.{face_there}
-use borrow.Author.Rules.{rules}
 use Rattle.inquire_polyhedral.proofs.rims.face_there.Goals as goal
 
 pub bounds-words-3 : goal.bounds-words-3

@@ -1,36 +1,11 @@
 -- `inquire_polyhedral::rims::fins_refusal` meets its contract: a turn of the loop is one fin more. Assumes nothing.
-use Prim.Native.Nat.{◌≤◌, ◌-◌}
-use borrow.Author.Rules.{rules}
-use native.Mathlib.Omega.{arith}
-use mathlib.Core.Path.{◌≡◌, sym, ap, ◌∙◌}
-use lib.ListN.{length, take}
-use lib.Seq.{take_all}
-use Rattle.meaning.specs.Refuse.{first_of}
+use Rattle.std.proofs.Common.{sym, ◌∙◌, arith}
 use Rattle.meaning_list_laws.specs.Tests.{first_of-none}
 use Rattle.walk_marks.specs.Laws.{first-turn}
-use Rattle.inquire_polyhedral.specs.Tested.{fin_straight}
 use Rattle.inquire_polyhedral.proofs.rims.fins_refusal.Goals as goal
 
-pub loop-k-init : goal.loop-k-init
-loop-k-init c = (omega arith, sym (first_of-none _))
+pub loop-fin-init : goal.loop-fin-init
+loop-fin-init c = sym (first_of-none _)
 
-pub offset_bounds-fins-k : goal.offset_bounds-fins-k
-offset_bounds-fins-k c = omega arith
-
-pub bounds-fins-k : goal.bounds-fins-k
-bounds-fins-k c = omega arith
-
-pub fin_refusal-requires : goal.fin_refusal-requires
-fin_refusal-requires c = c.requires
-
-pub overflow_add-k : goal.overflow_add-k
-overflow_add-k c = omega arith
-
-pub loop-k-smaller : goal.loop-k-smaller
-loop-k-smaller c = omega arith
-
-pub loop-k-preserved : goal.loop-k-preserved
-loop-k-preserved c = (omega arith, c.then-n.ensures ∙ first-turn _ c.args.fins.now c.loop-k.k _ _ (omega arith) c.loop-k.invariant.1 c.fin_refusal.ensures)
-
-pub returns : goal.returns
-returns c = c.loop-k.invariant.1 ∙ ap (first_of _) (take_all c.loop-k.k c.args.fins.now (omega arith))
+pub loop-fin-preserved : goal.loop-fin-preserved
+loop-fin-preserved c = c.then-n.ensures ∙ first-turn _ c.args.fins.now c.loop-fin.fin-index _ _ (omega arith) c.loop-fin.invariant c.fin_refusal.ensures

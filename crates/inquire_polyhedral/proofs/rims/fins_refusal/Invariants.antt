@@ -1,18 +1,9 @@
 -- `inquire_polyhedral::rims::fins_refusal` meets its contract: a turn of the loop is one fin more. Assumes nothing.
-use Prim.Native.Nat.{◌≤◌, ◌-◌}
-use borrow.Author.Rules.{rules}
-use native.Mathlib.Omega.{arith}
-use mathlib.Core.Path.{◌≡◌, sym, ap, ◌∙◌}
-use lib.ListN.{length, take}
-use lib.Seq.{take_all}
+use Rattle.std.specs.Prelude.{◌≡◌}
+use Rattle.std.proofs.Common.{take}
 use Rattle.meaning.specs.Refuse.{first_of}
-use Rattle.meaning_list_laws.specs.Tests.{first_of-none}
-use Rattle.walk_marks.specs.Laws.{first-turn}
 use Rattle.inquire_polyhedral.specs.Tested.{fin_straight}
 use Rattle.inquire_polyhedral.proofs.rims.fins_refusal.Given as goal
 
-abbrev pub invariant-loop-k : goal.invariant-loop-k
-invariant-loop-k l = (l.k ≤ length l.fins) × (l.n ≡ first_of (fin_straight l.room l.words l.reals) (take l.k l.fins))
-
-abbrev pub decreases-loop-k : goal.decreases-loop-k
-decreases-loop-k l = length l.fins - l.k
+abbrev pub invariant-loop-fin : goal.invariant-loop-fin
+invariant-loop-fin l = l.n ≡ first_of (fin_straight l.room l.words l.reals) (take l.fin-index l.fins)

@@ -9,7 +9,6 @@ use Rattle.memory_layout.specs.Laws.{lists_of}
 use Rattle.memory_records.specs.Laws.{counts-there}
 use Rattle.meaning.specs.Refuse.{first_of}
 use Rattle.inquire_polyhedral.specs.Tested.{fin_straight, loop_straight}
-use borrow.Author.Rules.{rules}
 use Rattle.inquire_polyhedral.proofs.rims.loop_refusal.Goals as goal
 
 pub bounds-words-4 : goal.bounds-words-4

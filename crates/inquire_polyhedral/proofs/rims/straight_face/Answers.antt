@@ -9,7 +9,6 @@ use Rattle.memory_layout.specs.Laws.{lists_of}
 use Rattle.memory_records.specs.Laws.{counts-there}
 use Rattle.meaning.specs.Refuse.{first_of}
 use Rattle.inquire_polyhedral.specs.Tested.{loop_straight, face_straight}
-use borrow.Author.Rules.{rules}
 use Rattle.inquire_polyhedral.proofs.rims.straight_face.Goals as goal
 
 pub bounds-words-3 : goal.bounds-words-3

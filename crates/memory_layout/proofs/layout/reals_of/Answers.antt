@@ -4,7 +4,6 @@ use mathlib.Core.Path.{◌≡◌}
 use native.Mathlib.Omega.{arith}
 use Rattle.memory_layout.specs.Layout.{real_strides, reals_of}
 use Rattle.memory_layout.specs.Laws.{capacity-le, record-inside}
-use borrow.Author.Rules.{rules}
 use Rattle.memory_layout.proofs.layout.reals_of.Goals as goal
 
 pub real_at-at-requires : goal.real_at-at-requires

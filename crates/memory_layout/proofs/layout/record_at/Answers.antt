@@ -1,7 +1,6 @@
 -- `memory_layout::layout::record_at` meets its contract. Assumes nothing.
 use native.Mathlib.Omega.{arith}
 use Rattle.memory_layout.specs.Laws.{stride-le, base-le}
-use borrow.Author.Rules.{rules}
 use Rattle.memory_layout.proofs.layout.record_at.Goals as goal
 
 pub overflow_mul-result : goal.overflow_mul-result

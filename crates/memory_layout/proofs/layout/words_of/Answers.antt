@@ -4,7 +4,6 @@ use mathlib.Core.Path.{◌≡◌}
 use native.Mathlib.Omega.{arith}
 use Rattle.memory_layout.specs.Layout.{word_strides, words_of}
 use Rattle.memory_layout.specs.Laws.{capacity-le, record-inside}
-use borrow.Author.Rules.{rules}
 use Rattle.memory_layout.proofs.layout.words_of.Goals as goal
 
 pub word_at-at-requires : goal.word_at-at-requires

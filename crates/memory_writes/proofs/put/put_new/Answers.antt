@@ -9,7 +9,6 @@ use Rattle.memory_layout.proofs.Laws.{words-length}
 use Rattle.memory_writes.specs.Put.{put_words, new_words}
 use Rattle.memory_writes.specs.Over.{taken_back}
 use Rattle.memory_writes.specs.Frame.{new-length}
-use borrow.Author.Rules.{rules}
 use Rattle.memory_writes.proofs.put.put_new.Goals as goal
 
 pub word_at-at-requires : goal.word_at-at-requires

@@ -6,7 +6,6 @@ use Rattle.memory_layout.specs.Layout.{real_strides, word, real_at}
 use Rattle.memory_layout.specs.Laws.{capacity-le, record-inside}
 use Rattle.memory_writes.specs.Put.{put_reals}
 use Rattle.memory_writes.specs.Over.{taken_back}
-use borrow.Author.Rules.{rules}
 use Rattle.memory_writes.proofs.put.put_reals.Goals as goal
 
 pub real_at-at-requires : goal.real_at-at-requires

@@ -8,7 +8,6 @@ use Rattle.memory_layout.specs.Laws.{capacity-le, record-inside}
 use Rattle.memory_layout.proofs.Laws.{words-length}
 use Rattle.memory_writes.specs.Put.{over, put_words}
 use Rattle.memory_writes.specs.Over.{length_over, taken_back}
-use borrow.Author.Rules.{rules}
 use Rattle.memory_writes.proofs.put.put_words.Goals as goal
 
 pub word_at-at-requires : goal.word_at-at-requires

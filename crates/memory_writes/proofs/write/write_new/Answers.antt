@@ -1,7 +1,6 @@
 -- `memory_writes::write::write_new` meets its contract. Assumes nothing.
 use mathlib.Core.Path.{ap, ◌∙◌}
 use Rattle.memory_writes.specs.Put.{over}
-use borrow.Author.Rules.{rules}
 use Rattle.memory_writes.proofs.write.write_new.Goals as goal
 
 pub returns : goal.returns

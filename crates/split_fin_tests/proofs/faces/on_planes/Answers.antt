@@ -1,6 +1,5 @@
 -- `split_fin_tests::faces::on_planes` meets its contract. Assumes nothing.
 use Rattle.split_fin_tests.specs.FaceTests.{on_planes}
-use borrow.Author.Rules.{rules}
 use Rattle.split_fin_tests.proofs.faces.on_planes.Goals as goal
 
 pub returns : goal.returns

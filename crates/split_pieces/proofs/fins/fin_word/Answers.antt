@@ -5,7 +5,6 @@ use Rattle.memory_layout.specs.Layout.{word}
 use lib.ListN.{length}
 use mathlib.Core.Path.{ap, ◌∙◌}
 use native.Mathlib.Omega.{arith}
-use borrow.Author.Rules.{rules}
 use Rattle.split_pieces.proofs.fins.fin_word.Goals as goal
 
 pub words_of-w-requires : goal.words_of-w-requires

@@ -1,6 +1,5 @@
 use Rattle.split_pieces.specs.Pieces.{loops_put}
 use native.Mathlib.Omega.{arith}
-use borrow.Author.Rules.{rules}
 use Rattle.split_pieces.proofs.relist.put_loops.Goals as goal
 
 pub overflow_cast-n : goal.overflow_cast-n

@@ -1,7 +1,6 @@
 use Rattle.split_pieces.specs.Pieces.{wires_put}
 use mathlib.Core.Path.{refl}
 use native.Mathlib.Omega.{arith}
-use borrow.Author.Rules.{rules}
 use Rattle.split_pieces.proofs.relist.put_wires.Goals as goal
 
 pub overflow_cast-n : goal.overflow_cast-n

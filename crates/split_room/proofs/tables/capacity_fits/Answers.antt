@@ -1,5 +1,4 @@
 -- `split_room::tables::capacity_fits` meets its contract. Assumes nothing.
-use borrow.Author.Rules.{rules}
 use Rattle.split_place.specs.Place.{capacity_test}
 use Rattle.split_room.proofs.tables.capacity_fits.Goals as goal
 

@@ -1,5 +1,4 @@
 -- `split_room::tables::loop_fits` meets its contract. Assumes nothing.
-use borrow.Author.Rules.{rules}
 use native.Mathlib.Omega.{arith}
 use Rattle.split_place.specs.Place.{owned_by, loop_test}
 use Rattle.split_place.specs.Laws.{count_if-le}

@@ -1,5 +1,4 @@
 -- `split_room::tables::tables_fit` meets its contract. Assumes nothing.
-use borrow.Author.Rules.{rules}
 use native.Mathlib.Omega.{arith}
 use mathlib.Core.Path.{refl}
 use Rattle.split_fins.specs.Laws.{counts-listed}

@@ -1,5 +1,4 @@
 -- `split_room::wires::wires_ok` meets its contract. Assumes nothing.
-use borrow.Author.Rules.{rules}
 use native.Mathlib.Omega.{arith}
 use Rattle.split_place.specs.Place.{wire_test}
 use Rattle.split_place.specs.Laws.{count-le}

@@ -1,7 +1,6 @@
 -- `split_stop_edge::parts::carrier_stop` meets its contract. Assumes nothing.
 use Rattle.split_stop_edge.specs.EdgeRows.{carried_told}
 use Rattle.memory_records.specs.Laws.{counts-there}
-use borrow.Author.Rules.{rules}
 use Rattle.split_stop_edge.proofs.parts.carrier_stop.Goals as goal
 
 pub vertices_stop-requires : goal.vertices_stop-requires

@@ -3,7 +3,6 @@ use Rattle.split_stop_edge.specs.EdgeRows.{curve_told}
 use Rattle.memory_records.specs.Laws.{counts-there}
 use Rattle.memory_layout.specs.Decode.{decode}
 use native.Mathlib.Omega.{arith}
-use borrow.Author.Rules.{rules}
 use Rattle.split_stop_edge.proofs.parts.curve_stop.Goals as goal
 
 pub bounds-words-8 : goal.bounds-words-8

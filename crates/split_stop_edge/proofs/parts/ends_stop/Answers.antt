@@ -1,6 +1,5 @@
 -- `split_stop_edge::parts::ends_stop` meets its contract. Assumes nothing.
 use Rattle.split_stop_edge.specs.EdgeRows.{ends_told}
-use borrow.Author.Rules.{rules}
 use Rattle.split_stop_edge.proofs.parts.ends_stop.Goals as goal
 
 pub returns : goal.returns

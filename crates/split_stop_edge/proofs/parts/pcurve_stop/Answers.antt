@@ -3,7 +3,6 @@ use Rattle.split_stop_edge.specs.Laws.{pcurve-missing, pcurve-there}
 use Rattle.split_fins.specs.Laws.{counts-listed}
 use Rattle.memory_records.specs.Laws.{words-whole}
 use Rattle.memory_layout.specs.Laws.{words_inside}
-use Rattle.geom_lines_planes.specs.Refuse.{◌unless◌}
 use lib.ListN.{length}
 use lib.Dec.{lit<}
 use mathlib.Core.Path.{◌≡◌, ◌∙◌}

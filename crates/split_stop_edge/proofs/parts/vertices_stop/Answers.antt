@@ -1,7 +1,5 @@
 -- `split_stop_edge::parts::vertices_stop` meets its contract. Assumes nothing.
 use Rattle.split_stop_edge.specs.EdgeRows.{vertices_told}
-use native.Mathlib.Omega.{arith}
-use borrow.Author.Rules.{rules}
 use Rattle.split_stop_edge.proofs.parts.vertices_stop.Goals as goal
 
 pub returns : goal.returns

@@ -10,7 +10,6 @@ use lib.ListN.{get_or, take}
 use lib.Dec.{lit<}
 use mathlib.Core.Path.{sym}
 use native.Mathlib.Omega.{arith}
-use borrow.Author.Rules.{rules}
 use Rattle.split_stop_place.proofs.fins.use_stop.Goals as goal
 
 pub words_of-w-requires : goal.words_of-w-requires

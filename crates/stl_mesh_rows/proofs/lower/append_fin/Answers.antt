@@ -3,7 +3,6 @@ use native.Mathlib.Omega.{arith}
 use mathlib.Core.Path.{ap, ◌∙◌}
 use mathlib.Core.List.{[], ◌∷◌}
 use Rattle.stl_rows.specs.Rows.{appended_words}
-use borrow.Author.Rules.{rules}
 use Rattle.stl_mesh_rows.proofs.lower.append_fin.Goals as goal
 
 pub append-requires : goal.append-requires

@@ -8,7 +8,6 @@ use lib.ListN.{length, take, length-set}
 use Rattle.stl_body.specs.Read.{fins_on}
 use Rattle.stl_rows.specs.Rows.{appended_words}
 use Rattle.stl_mesh_rows.specs.Flats.{edge-row-is}
-use borrow.Author.Rules.{rules}
 use Rattle.stl_mesh_rows.proofs.lower.lay_edge.Goals as goal
 
 pub fins_on-c-requires : goal.fins_on-c-requires

@@ -1,17 +1,13 @@
 -- `stl_mesh_rows::lower::lay_edges` meets its contract: a turn of the loop is one edge more. Assumes nothing.
-use Prim.Native.Nat.{ℕ, ◌+◌, ◌*◌, ◌-◌, ◌≤◌}
-use native.Mathlib.Omega.{arith}
-use mathlib.Core.Path.{◌≡◌, refl, ap, ◌∙◌}
+use Rattle.std.specs.Prelude.{ℕ, ◌≡◌, ◌+◌, ◌*◌}
+use Rattle.std.proofs.Common.{arith, refl, ap, ◌∙◌}
 use Rattle.stl_rows.specs.Rows.{words_behind}
-use Rattle.stl_rows.specs.Facts.{Grown, flat_edge_row}
+use Rattle.stl_rows.specs.Facts.{flat_edge_row}
 use Rattle.stl_rows.specs.Laws.{grown-none, grown-space, grown-more}
-use borrow.Author.Rules.{rules}
 use Rattle.stl_mesh_rows.proofs.lower.lay_edges.Goals as goal
 
 pub loop-k-init : goal.loop-k-init
-loop-k-init c =
-    let s = c in
-    (grown-none s.args.room.now 6 (flat_edge_row s.args.vertex s.args.fin s.args.n s.args.edges.now s.args.ends.now) s.args.words.now, omega arith)
+loop-k-init c = grown-none c.args.room.now 6 (flat_edge_row c.args.vertex c.args.fin c.args.n c.args.edges.now c.args.ends.now) c.args.words.now
 
 pub bounds-ends-k : goal.bounds-ends-k
 bounds-ends-k c = let b = c.requires.below.long in omega arith
@@ -38,10 +34,7 @@ pub lay_edge-requires : goal.lay_edge-requires
 lay_edge-requires c =
     let s = c in
     let loop = c.loop-k in
-    let row = flat_edge_row s.args.vertex s.args.fin s.args.n s.args.edges.now s.args.ends.now in record { space = grown-space s.args.room.now 6 row s.args.words.now s.args.e loop.k loop.words s.requires.space loop.invariant.0 c.loop-k-test.true; fin_bound = (s.requires.vertex_bound.1, s.requires.vertex_bound.2, s.requires.vertex_bound.3); edges_len_bound = s.requires.eight.eight loop.k s.args.fin c.loop-k-test.true }
-
-pub loop-k-smaller : goal.loop-k-smaller
-loop-k-smaller c = omega arith
+    let row = flat_edge_row s.args.vertex s.args.fin s.args.n s.args.edges.now s.args.ends.now in record { space = grown-space s.args.room.now 6 row s.args.words.now s.args.e loop.k loop.words s.requires.space loop.invariant (omega arith); fin_bound = (s.requires.vertex_bound.1, s.requires.vertex_bound.2, s.requires.vertex_bound.3); edges_len_bound = s.requires.eight.eight loop.k s.args.fin (omega arith) }
 
 pub loop-k-preserved : goal.loop-k-preserved
 loop-k-preserved c =
@@ -49,15 +42,12 @@ loop-k-preserved c =
     let loop = c.loop-k in
     let laid = c.lay_edge in
     let row = flat_edge_row s.args.vertex s.args.fin s.args.n s.args.edges.now s.args.ends.now in
-    let short = s.requires.eight.eight loop.k s.args.fin c.loop-k-test.true in
-    (grown-more s.args.room.now 6 row s.args.words.now s.args.e loop.k loop.words laid.new.words (row loop.k) s.requires.space loop.invariant.0 c.loop-k-test.true refl (omega arith) laid.ensures, omega arith)
-
-pub shape_of-words : goal.shape_of-words
-shape_of-words c = c.loop-k.invariant.0.long
+    let short = s.requires.eight.eight loop.k s.args.fin (omega arith) in
+    grown-more s.args.room.now 6 row s.args.words.now s.args.e loop.k loop.words laid.new.words (row loop.k) s.requires.space loop.invariant (omega arith) refl (omega arith) laid.ensures
 
 pub returns : goal.returns
 returns c =
     let s = c in
     let all : c.loop-k.k ≡ s.args.e = omega arith in
-    c.loop-k.invariant.0.words
+    c.loop-k.invariant.words
     ∙ ap (λ (i : ℕ). words_behind s.args.room.now 6 (flat_edge_row s.args.vertex s.args.fin s.args.n s.args.edges.now s.args.ends.now) i s.args.words.now) all

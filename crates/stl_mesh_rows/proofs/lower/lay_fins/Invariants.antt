@@ -1,16 +1,7 @@
 -- `stl_mesh_rows::lower::lay_fins` meets its contract: a turn of the loop is one triangle more. Assumes nothing.
-use Prim.Native.Nat.{ℕ, ◌+◌, ◌*◌, ◌-◌, ◌≤◌}
-use native.Mathlib.Omega.{arith}
-use mathlib.Core.Path.{◌≡◌, ap, ◌∙◌}
-use Rattle.stl_rows.specs.Rows.{words_behind}
+use Rattle.std.specs.Prelude.{◌*◌}
 use Rattle.stl_rows.specs.Facts.{Grown, flat_fin_row}
-use Rattle.stl_rows.specs.Laws.{grown-none, grown-rest}
-use Rattle.stl_mesh_rows.specs.Flats.{triangle-more, below-front}
-use borrow.Author.Rules.{rules}
 use Rattle.stl_mesh_rows.proofs.lower.lay_fins.Given as goal
 
 abbrev pub invariant-loop-j : goal.invariant-loop-j
-invariant-loop-j l = Grown l.room 5 (flat_fin_row l.first l.edge l.n l.numbers l.edges) l.initial.words l.words (3 * l.j) × (l.j ≤ l.n)
-
-abbrev pub decreases-loop-j : goal.decreases-loop-j
-decreases-loop-j l = l.n - l.j
+invariant-loop-j l = Grown l.room 5 (flat_fin_row l.first l.edge l.n l.numbers l.edges) l.initial.words l.words (3 * l.j)

@@ -4,7 +4,6 @@ use native.Mathlib.Omega.{arith}
 use Rattle.stl_rows.specs.Facts.{corner_row}
 use Rattle.stl_rows.specs.Laws.{grown-none, grown-space}
 use Rattle.stl_mesh_rows.specs.Flats.{first-fin, second-fin, third-fin}
-use borrow.Author.Rules.{rules}
 use Rattle.stl_mesh_rows.proofs.lower.lay_triangle.Goals as goal
 
 pub bounds-edges-at : goal.bounds-edges-at

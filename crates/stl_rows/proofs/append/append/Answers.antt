@@ -7,7 +7,6 @@ use Rattle.memory_layout.specs.Layout.{word}
 use Rattle.memory_writes.specs.Put.{put_words, new_words, counted}
 use Rattle.stl_rows.specs.Rows.{appended_words}
 use Rattle.stl_rows.specs.Laws.{stored-count}
-use borrow.Author.Rules.{rules}
 use Rattle.stl_rows.proofs.append.append.Goals as goal
 
 pub bounds-words-k : goal.bounds-words-k

@@ -2,7 +2,6 @@
 use mathlib.Core.Path.{ap}
 use mathlib.Core.List.{◌∷◌}
 use Rattle.stl_rows.specs.Laws.{two_run}
-use borrow.Author.Rules.{rules}
 use Rattle.stl_rows.proofs.upper.body_row.Goals as goal
 
 pub returns : goal.returns

@@ -1,6 +1,5 @@
 -- `stl_rows::upper::face_row` meets its contract. Assumes nothing.
 use mathlib.Core.Path.{refl}
-use borrow.Author.Rules.{rules}
 use Rattle.stl_rows.proofs.upper.face_row.Goals as goal
 
 pub returns : goal.returns

@@ -4,7 +4,6 @@ use mathlib.Core.Path.{◌≡◌, ap, ◌∙◌}
 use lib.ListN.{length}
 use Rattle.stl_rows.specs.Rows.{appended_words, words_behind}
 use Rattle.stl_rows.specs.Laws.{body-length}
-use borrow.Author.Rules.{rules}
 use Rattle.stl_rows.proofs.upper.lay_body.Goals as goal
 
 pub append-requires : goal.append-requires

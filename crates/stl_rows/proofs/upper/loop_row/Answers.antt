@@ -3,7 +3,6 @@ use Prim.Native.Nat.{◌+◌, ◌*◌}
 use mathlib.Core.Path.{ap}
 use mathlib.Core.List.{◌∷◌}
 use Rattle.stl_rows.specs.Laws.{three-run}
-use borrow.Author.Rules.{rules}
 use Rattle.stl_rows.proofs.upper.loop_row.Goals as goal
 
 pub returns : goal.returns

@@ -1,6 +1,5 @@
 -- `stl_rows::upper::region_row` meets its contract. Assumes nothing.
 use mathlib.Core.Path.{refl}
-use borrow.Author.Rules.{rules}
 use Rattle.stl_rows.proofs.upper.region_row.Goals as goal
 
 pub returns : goal.returns

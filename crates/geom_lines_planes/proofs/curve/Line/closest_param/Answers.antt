@@ -1,6 +1,5 @@
 -- `curve::Line::closest_param` meets its contract: what its calls ensure, put together, is `nearest`. Assumes nothing.
 use mathlib.Core.Path.{ap, ◌∙◌}
-use borrow.Author.Rules.{rules}
 use Rattle.float_vectors.specs.declared.vector.Vec3.{Vec3}
 use Rattle.float_vectors.specs.Space.{dot_v}
 use Rattle.geom_lines_planes.specs.Geometry.{nearest}
