@@ -9,12 +9,14 @@ pub fn clear(w: &mut [u32])
     w.fill(0);
 }
 
-// The words of a, from a place on.
+// The words of a, from a place on. A loop, as below: `copy_from_slice` calls `memmove`, which the header for C does not ask for.
 pub fn write_words(w: &mut [u32], at: usize, a: &[u32])
     requires { at + length a.now ≤ length w.old }
     ensures { w.new ≡ over at a.now w.old }
 {
-    w[at..at + a.len()].copy_from_slice(a);
+    for (j, word) in a.iter().enumerate() {
+        w[at + j] = *word;
+    }
 }
 
 // The floats of a.
@@ -22,7 +24,9 @@ pub fn write_reals(x: &mut [f64], a: &[f64])
     requires { length a.now ≡ length x.old }
     ensures { x.new ≡ a.now }
 {
-    x.copy_from_slice(a);
+    for (j, real) in a.iter().enumerate() {
+        x[j] = *real;
+    }
 }
 
 // The words of a, and behind them zeros.
